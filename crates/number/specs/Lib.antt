@@ -1,0 +1,4 @@
+-- What the contracts of `number` cite. Definitions only.
+pub mod Number
+pub mod Range
+pub mod Halving

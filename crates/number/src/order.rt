@@ -1,0 +1,30 @@
+// Absolute value, smaller, larger, clamp, next f32 up (docs/01-scope.md, "Number helpers").
+ghost use mathlib.Core.Path.{_≡_};
+ghost use Rattle.number.specs.Number as Def;
+
+// The smaller of two, the first of equals.
+pub fn smaller(a: f32, b: f32) -> f32
+    ensures { λ r. ⌜ r ≡ Def.smaller a b ⌝ }
+{
+    if b < a { b } else { a }
+}
+
+// The larger of two, the first of equals.
+pub fn larger(a: f32, b: f32) -> f32
+    ensures { λ r. ⌜ r ≡ Def.larger a b ⌝ }
+{
+    if a < b { b } else { a }
+}
+
+// x held to low..high.
+pub fn clamp(x: f32, low: f32, high: f32) -> f32
+    ensures { λ r. ⌜ r ≡ Def.clamp x low high ⌝ }
+{
+    if x < low {
+        low
+    } else if high < x {
+        high
+    } else {
+        x
+    }
+}
