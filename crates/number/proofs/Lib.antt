@@ -10,3 +10,6 @@ pub mod Halvings
 pub mod Within
 pub mod Signs
 pub mod Later
+pub mod Sizes
+pub mod Finite
+pub mod NextUp
