@@ -1,0 +1,2 @@
+-- What the contracts of `pair` cite. Definitions only.
+pub mod Admission
