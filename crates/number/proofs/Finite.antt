@@ -16,16 +16,14 @@ use Rattle.number.specs.Range.{isFinite, between}
 use Rattle.number.proofs.Units.{L, Is, Unit32, plus, shift, fin-false, says-le}
 use Rattle.number.proofs.Within.{not-lt-le, both}
 use Rattle.number.proofs.Sizes.{fits-plus}
-use Rattle.number.proofs.Neighbours.{val, val-lt, bits-are, bits-lt, bits-val}
+use Rattle.number.proofs.Patterns.{val, val-le, bits-are}
+use Rattle.number.proofs.Neighbours.{bits-lt, bits-val}
 
 pub is-finite : (x : Float) → isFinite x ≡ finite x
 unfolding isFinite
 is-finite nan = refl
 is-finite (inf s) = refl
 is-finite (fin s m e) = refl
-
-val-le : (b c : ℕ) → b ≤ c → val b ≤ val c
-val-le b c h = elim (eq-or-lt-of-le h) [ inl e ↦ le-of-eq (ap val e) | inr l ↦ le-of-lt (val-lt b c l) ]
 
 -- no f32 of sign plus is above the largest
 abbrev most : ℕ

@@ -4,6 +4,7 @@ pub mod Units
 pub mod Sums
 pub mod Products
 pub mod Middle
+pub mod Patterns
 pub mod Neighbours
 pub mod Window
 pub mod Halvings

@@ -14,6 +14,7 @@ use lib.Ieee.Fits.{and-i, and-l, eq→eqb, up-pos}
 use Rattle.number.specs.Number.{zero32, nextUp}
 use Rattle.number.proofs.Units.{shift, fin-false}
 use Rattle.number.proofs.Within.{or-r}
+use Rattle.number.proofs.Patterns.{no-nan-bits, bits-no-nan}
 use Rattle.number.proofs.Neighbours.{bits-lt}
 
 -- ---- the test x != x
@@ -27,20 +28,7 @@ pub up-nan : (x : Float) → ne x x ≡ true → x ≡ nextUp x
 unfolding nextUp
 up-nan x h = let e = differs-from-itself x (subst T (sym h) tt) in e ∙ ap nextUp (sym e)
 
--- ---- patterns: 2139095040 is the infinity's, 2147483648 the sign
-no-nan-bits : (b : ℕ) → b % 2147483648 ≤ 2139095040 → T (not (nanBits binary32 b))
-no-nan-bits b h =
-    subst (λ (t : Bool). T (not t)) (sym (nanBits-above binary32 b))
-    (not-T (ltb 2139095040 (b % 2147483648)) (λ (u : T (ltb 2139095040 (b % 2147483648))).
-    lt-irrefl 2139095040 (lt-of-lt-of-le (ltb→lt 2139095040 (b % 2147483648) u) h)))
-
-bits-no-nan : (x : Float) → T (fits binary32 x) → T (not (isNan x)) → toBits binary32 x % 2147483648 ≤ 2139095040
-bits-no-nan x f h =
-    let b = toBits binary32 x in
-    let t : T (not (ltb 2139095040 (b % 2147483648))) =
-    subst (λ (t : Bool). T (not t)) (ap isNan (sym (ofBits-toBits binary32 x f)) ∙ sym (nanBits-is binary32 b) ∙ nanBits-above binary32 b) h in
-    nltb→le 2139095040 (b % 2147483648) t
-
+-- ---- patterns
 -- a pattern of sign minus that is not equal to zero is past the sign alone
 minus-some : (x : Float) → T (fits binary32 x) → eq x zero32 ≡ false → toBits binary32 x ≡ 2147483648 → ⊥
 unfolding eq ofBits

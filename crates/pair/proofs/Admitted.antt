@@ -67,8 +67,11 @@ module _ (test : Float → Bool) where
   pub twelve-each : (x : List (List Float)) → T (ofTwelve test x) → Each test x
   twelve-each x h = go
     where
-      all : T (ofThree test (col x 0)) × T (ofThree test (col x 1)) × T (ofThree test (col x 2)) × T (ofThree test (col x 3))
-      all = quadruple (ofThree test (col x 0)) (ofThree test (col x 1)) (ofThree test (col x 2)) (ofThree test (col x 3)) h
+      row : ℕ → Bool
+      row i = ofThree test (col x i)
+
+      all : T (row 0) × T (row 1) × T (row 2) × T (row 3)
+      all = quadruple (row 0) (row 1) (row 2) (row 3) h
 
       go : Each test x
       go zero j k l = three-each (col x 0) (all .0) j l
@@ -78,7 +81,8 @@ module _ (test : Float → Bool) where
       go (suc (suc (suc (suc i)))) j k l = absurd (omega arith)
 
 -- each number of points within the limit is at most 2 ^ 20 in size
-pub points-within : (x : List (List Float)) → T (limitPoints x) → (i j : ℕ) → i < 4 → j < 3 → Within 20 (at (col x i) j)
+pub points-within : (x : List (List Float)) → T (limitPoints x)
+    → (i j : ℕ) → i < 4 → j < 3 → Within 20 (at (col x i) j)
 unfolding limitPoints
 points-within x h i j k l = limit-within (at (col x i) j) (twelve-each inLimit x h i j k l)
 

@@ -1,5 +1,5 @@
--- The range tests of what is handed over, as bounds: a number in its range is finite and at most a power of two in size,
--- and one of a range from zero up is not below zero. Assumes nothing.
+-- The range tests of what is handed over, as bounds: a number in its range is finite and at most a power of two in
+-- size. Assumes nothing.
 use Prim.Native.Nat.{ℕ, _*_, _^_, _≤_}
 use native.Mathlib.Omega.{arith}
 use mathlib.Core.Path.{_≡_}
@@ -35,7 +35,8 @@ from-zero a (inf true) h k = h
 from-zero a (inf false) h k = k
 from-zero a (fin false m e) h k = within-tests a (fin false m e) (plus-above a m e) k
 from-zero a (fin true m e) h k =
-    none (m * up e) (down e) (2 ^ a) (eqb→eq (0 * 1 * down e) (m * up e * 1) (and-l (eqb (0 * 1 * down e) (m * up e * 1)) (eqb (0 * 1 * down e) 0) h))
+    none (m * up e) (down e) (2 ^ a)
+    (eqb→eq (0 * 1 * down e) (m * up e * 1) (and-l (eqb (0 * 1 * down e) (m * up e * 1)) (eqb (0 * 1 * down e) 0) h))
   where
     none : (m d p : ℕ) → 0 * 1 * d ≡ m * 1 → m ≤ p * d
     none m d p h = omega arith

@@ -48,3 +48,25 @@ rangedWalk x dx split l = limitPoints x && limitPoints dx && rangedLimits l && i
 
 unfoldable pub walkRefusal : List (List Float) → List (List Float) → ℕ → Limits → ℕ
 walkRefusal x dx split l = refusal (finiteWalk x dx l) (rangedWalk x dx split l)
+
+-- four points; four points and their split, as a norm and a distance take them
+unfoldable pub pointsRefusal : List (List Float) → ℕ
+pointsRefusal x = refusal (finitePoints x) (limitPoints x)
+
+unfoldable pub splitRefusal : List (List Float) → ℕ → ℕ
+splitRefusal x split = refusal (finitePoints x) (limitPoints x && isSplit split)
+
+-- four points and a factor of 0 to 2 ^ 20
+unfoldable pub factorRefusal : List (List Float) → Float → ℕ
+factorRefusal x s = refusal (finitePoints x && isFinite s) (limitPoints x && zeroToLimit s)
+
+-- a pair's 24 numbers and a time of 0 to 1: moved points, scaling
+unfoldable pub timeRefusal : List (List Float) → List (List Float) → Float → ℕ
+timeRefusal x dx t =
+    refusal (finitePoints x && finitePoints dx && isFinite t) (limitPoints x && limitPoints dx && zeroToOne t)
+
+-- the ends of a segment and a ratio of 0 to 1
+unfoldable pub ratioRefusal : List Float → List Float → Float → ℕ
+ratioRefusal p q s =
+    refusal (ofThree isFinite p && ofThree isFinite q && isFinite s)
+    (ofThree inLimit p && ofThree inLimit q && zeroToOne s)

@@ -1,2 +1,4 @@
 -- What the contracts of `pair` cite. Definitions only.
 pub mod Admission
+pub mod Points
+pub mod Norm

@@ -1,6 +1,6 @@
-// The one place that tests what callers hand over (docs/01-scope.md, "What callers hand over, and the numbers allowed",
-// "Refusal numbers"): 1, some number is NaN or infinite; 2, none is, but one lies beyond its range, or the split is
-// neither 2 nor 3; 0, admitted.
+// The one place that tests what callers hand over (docs/01-scope.md, "What callers hand over, and the numbers
+// allowed", "Refusal numbers"): 1, some number is NaN or infinite; 2, none is, but one lies beyond its range, or the
+// split is neither 2 nor 3; 0, admitted.
 ghost use mathlib.Core.Path.{_≡_};
 ghost use Rattle.number.specs.Range.{isFinite, inLimit};
 ghost use Rattle.pair.specs.Admission as Def;
@@ -84,5 +84,49 @@ pub fn admit_walk(x0: [[f32; 3]; 4], dx: [[f32; 3]; 4], split: usize, limits: Li
     verdict(
         points_finite(x0) & points_finite(dx) & limits_finite(limits),
         points_in_limit(x0) & points_in_limit(dx) & limits_ranged(limits) & is_split(split),
+    )
+}
+
+// Four points.
+pub fn admit_points(x: [[f32; 3]; 4]) -> u32
+    ensures { λ r. ⌜ r ≡ Def.pointsRefusal x ⌝ }
+{
+    verdict(points_finite(x), points_in_limit(x))
+}
+
+// Four points and their split: the norm, the distance.
+pub fn admit_split(x: [[f32; 3]; 4], split: usize) -> u32
+    ensures { λ r. ⌜ r ≡ Def.splitRefusal x split ⌝ }
+{
+    verdict(points_finite(x), points_in_limit(x) & is_split(split))
+}
+
+// Four points and a factor.
+pub fn admit_factor(x: [[f32; 3]; 4], s: f32) -> u32
+    ensures { λ r. ⌜ r ≡ Def.factorRefusal x s ⌝ }
+{
+    verdict(
+        points_finite(x) & range::is_finite(s),
+        points_in_limit(x) & range::zero_to_limit(s),
+    )
+}
+
+// The 24 numbers of a pair and a time: moved points, scaling.
+pub fn admit_time(x: [[f32; 3]; 4], dx: [[f32; 3]; 4], t: f32) -> u32
+    ensures { λ r. ⌜ r ≡ Def.timeRefusal x dx t ⌝ }
+{
+    verdict(
+        points_finite(x) & points_finite(dx) & range::is_finite(t),
+        points_in_limit(x) & points_in_limit(dx) & range::zero_to_one(t),
+    )
+}
+
+// The ends of a segment and a ratio.
+pub fn admit_ratio(p0: [f32; 3], p1: [f32; 3], ratio: f32) -> u32
+    ensures { λ r. ⌜ r ≡ Def.ratioRefusal p0 p1 ratio ⌝ }
+{
+    verdict(
+        three_finite(p0) & three_finite(p1) & range::is_finite(ratio),
+        three_in_limit(p0) & three_in_limit(p1) & range::zero_to_one(ratio),
     )
 }
