@@ -1,6 +1,8 @@
 -- Proofs and laws of `ccd3`. What other crates may cite is public.
 pub mod WalkLaws
 pub mod StartLaws
+pub mod Bracket
+pub mod PlainStep
 mod CrossPairs
 mod HalvingLoop
 mod WalkLoop

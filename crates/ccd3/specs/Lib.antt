@@ -4,3 +4,4 @@ pub mod Directional
 pub mod Step
 pub mod Walk
 pub mod SafeTime
+pub mod Promise
