@@ -16,3 +16,4 @@ pub mod Sizes
 pub mod Finite
 pub mod NextUp
 pub mod SquareRoot
+pub mod Corners

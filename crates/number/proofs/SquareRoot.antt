@@ -4,3 +4,6 @@ pub mod Digits
 pub mod Nearest
 pub mod Bits
 pub mod Argument
+pub mod Found
+pub mod Theorem
+pub mod Bounds
