@@ -3,6 +3,7 @@ pub mod WalkLaws
 pub mod StartLaws
 pub mod Bracket
 pub mod PlainStep
+pub mod Growth
 mod CrossPairs
 mod HalvingLoop
 mod WalkLoop
