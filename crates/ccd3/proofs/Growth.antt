@@ -168,7 +168,7 @@ pub record Given (l : Limits) : Type 0 where
   pub clearance-in : T (zeroToLimit (l .clearance))
   pub speed-in : T (speedRange (l .«u_max»))
 
-module _ (l : Limits) (g : Given l) (d : Float) (s : Sound d) (above : T (lt (park l ⊗ park l) d)) where
+module _ (l : Limits) (g : Given l) where
   dip-within : Within 21 (dip l)
   dip-within =
       add-within 20 (l .offset) (l .clearance ⊗ half32) (lit≤ tt) (zero-limit-within (l .offset) (g .offset-in))
@@ -179,21 +179,22 @@ module _ (l : Limits) (g : Given l) (d : Float) (s : Sound d) (above : T (lt (pa
       add-within 20 (l .offset) (l .clearance) (lit≤ tt) (zero-limit-within (l .offset) (g .offset-in))
       (zero-limit-within (l .clearance) (g .clearance-in))
 
-  own : (v : ℕ) × Unit32 d v
-  own = of-float d (s .fit) (within-finite 60 d (s .bound)) (plus-up d (s .sign))
-
-  squared-park : (u : ℕ) × Unit32 (park l ⊗ park l) u
+  pub squared-park : (u : ℕ) × Unit32 (park l ⊗ park l) u
   squared-park =
       of-float (park l ⊗ park l) (mul-fits binary32 (park l) (park l))
       (within-finite 42 (park l ⊗ park l) (mul-within 21 21 (park l) (park l) (lit≤ tt) park-within park-within))
       (plus-up (park l ⊗ park l) (square-plus (park l) (within-finite 21 (park l) park-within)))
+
+module _ (l : Limits) (g : Given l) (d : Float) (s : Sound d) (above : T (lt (park l ⊗ park l) d)) where
+  own : (v : ℕ) × Unit32 d v
+  own = of-float d (s .fit) (within-finite 60 d (s .bound)) (plus-up d (s .sign))
 
   positive-own : T (lt zero32 d)
   unfolding ofBits
   positive-own =
       says-lt zero32 d 0 (own .0) refl (own .1 .is)
       (lt-of-le-of-lt zero-le
-      (lt-says (park l ⊗ park l) d (squared-park .0) (own .0) (squared-park .1 .is) (own .1 .is) above))
+      (lt-says (park l ⊗ park l) d (squared-park l g .0) (own .0) (squared-park l g .1 .is) (own .1 .is) above))
 
   root : RootUnits d (own .0)
   root = root-facts d (own .0) (s .fit) positive-own (own .1 .is)
@@ -211,7 +212,7 @@ module _ (l : Limits) (g : Given l) (d : Float) (s : Sound d) (above : T (lt (pa
       product-plus (rootOf d ⊖ dip l) (one32 ⊘ l .«u_max»)
       (within-finite 31 (rootOf d ⊖ dip l)
       (sub-within 30 (rootOf d) (dip l) (lit≤ tt) (root-within 30 d (lit≤ tt) (s .fit) (s .bound))
-      (within-more 21 30 (dip l) (lit≤ tt) dip-within)))
+      (within-more 21 30 (dip l) (lit≤ tt) (dip-within l g))))
       (within-finite 60 (one32 ⊘ l .«u_max») (i .0)) excess (i .1)
 
 -- ---- the step, and the next time

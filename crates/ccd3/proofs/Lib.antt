@@ -4,6 +4,9 @@ pub mod StartLaws
 pub mod Bracket
 pub mod PlainStep
 pub mod Growth
+pub mod Standing
+pub mod Kept
+pub mod Promises
 mod CrossPairs
 mod HalvingLoop
 mod WalkLoop
