@@ -59,7 +59,7 @@ module _ (p : Float → Bool) (n : ℕ) (lo hi : Float) (i : Inv p n lo hi) wher
   once : (r : Halved) → r .lower ≡ nextLower p lo hi → r .upper ≡ nextUpper p lo hi → Held hi r
   once r a b =
       let s = step-at lo hi (nextLower p lo hi) (nextUpper p lo hi) (i .u) (i .v) (i .span)
-          (split-of (p (midpoint lo hi))) in
+      (split-of (p (midpoint lo hi))) in
       let lower′ : Timely (nextLower p lo hi) = record {
         units = s .0;
         is = s .2 .low .is;
@@ -122,5 +122,5 @@ pub bracket-ends : (p : Float → Bool) (lo hi : Float) → Bracket p lo hi
     → Ends p (halve p 255 0 lo hi) × Held hi (halve p 255 0 lo hi)
 bracket-ends p lo hi b =
     let i = begin p lo hi (b .low .fit) (b .high .fit) (b .low .sign) (plus-up lo (b .low .sign)) (b .order) (b .top)
-        (b .far) (b .near) in
+    (b .far) (b .near) in
     (ends p lo hi i, held-from p 255 0 lo hi refl i)

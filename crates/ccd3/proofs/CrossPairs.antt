@@ -10,7 +10,16 @@ use lib.Ieee.{Float, le}
 use Rattle.number.specs.Number.{_⊗_, zero32}
 use Rattle.ccd3.specs.declared.Aim.{Aim}
 use Rattle.ccd3.specs.Directional.{
-  Cross, row, rows, crossPairs, projected, rate, lessened, leastOver, directional, largest
+  Cross,
+  row,
+  rows,
+  crossPairs,
+  projected,
+  rate,
+  lessened,
+  leastOver,
+  directional,
+  largest,
 }
 
 abbrev pub cross : ℕ → ℕ → Cross

@@ -244,7 +244,7 @@ module _ (dx : List (List Float)) (split : ℕ) (l : Limits) (g : Given l) (v : 
       → T (le (v .time) (next dx split l v)) × T (plus (next dx split l v))
   next-later f k q = (
     later-any (v .time) (step dx split l v) f k q (plus-up (v .time) q) step-fits
-    (plus-up (step dx split l v) step-plus) .0,
+        (plus-up (step dx split l v) step-plus) .0,
     sum-plus (v .time) (step dx split l v) q step-plus,
   )
 

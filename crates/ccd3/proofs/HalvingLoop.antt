@@ -22,7 +22,7 @@ module _ (p : Float → Bool) where
   -- one turn, by whether the window repeats
   turn : (k n : ℕ) (lo hi : Float) (b : Bool) → repeats p lo hi ≡ b
       → halve p (suc k) n lo hi
-        ≡ cond b (stopped-at n lo hi) (halve p k (suc n) (nextLower p lo hi) (nextUpper p lo hi))
+      ≡ cond b (stopped-at n lo hi) (halve p k (suc n) (nextLower p lo hi) (nextUpper p lo hi))
   unfolding halve
   turn k n lo hi b e =
       ap (λ (t : Bool). elim t as (λ _. Halved) [
@@ -44,7 +44,7 @@ module _ (p : Float → Bool) where
 
   pub new-ends : (lo hi lo′ hi′ : Float)
       → ((p (midpoint lo hi) ≡ true) × (lo′ ≡ midpoint lo hi) × (hi′ ≡ hi))
-        ⊎ ((p (midpoint lo hi) ≡ false) × (lo′ ≡ lo) × (hi′ ≡ midpoint lo hi))
+      ⊎ ((p (midpoint lo hi) ≡ false) × (lo′ ≡ lo) × (hi′ ≡ midpoint lo hi))
       → Moved lo hi lo′ hi′
   new-ends lo hi lo′ hi′ (inl (e, a, b)) = (rw (e, a), rw (e, b))
   new-ends lo hi lo′ hi′ (inr (e, a, b)) = (rw (e, a), rw (e, b))

@@ -27,7 +27,14 @@ use Rattle.ccd3.specs.Promise.{InTime, Every, Stopped, Paused}
 use Rattle.ccd3.proofs.WalkLaws.{walk-clears, walk-spends, walk-meets, walk-steps}
 use Rattle.ccd3.proofs.Bracket.{Timely, Bracket, Held, bracket-ends}
 use Rattle.ccd3.proofs.Standing.{
-  Ground, Standing, limit-from, limit-units, stands-on, brackets, next-limit, next-timely
+  Ground,
+  Standing,
+  limit-from,
+  limit-units,
+  stands-on,
+  brackets,
+  next-limit,
+  next-timely,
 }
 
 zero-is : Is zero32 0
@@ -97,7 +104,7 @@ module _ (x₀ dx : List (List Float)) (split : ℕ) (l : Limits) (g : Ground x�
   -- a bracket within the limit stops well
   stopped : (lower upper : Float) → T (le upper (l .«max_t»)) → Bracket far lower upper
       → Stopped x₀ dx split l (closing x₀ dx split (squaredPark l) lower upper .lower)
-        × (closing x₀ dx split (squaredPark l) lower upper .count ≤ 256)
+      × (closing x₀ dx split (squaredPark l) lower upper .count ≤ 256)
   unfolding closing
   stopped lower upper h b =
       let r = bracket-ends far lower upper b in
@@ -107,20 +114,22 @@ module _ (x₀ dx : List (List Float)) (split : ℕ) (l : Limits) (g : Ground x�
       let n : c .upper ≡ nextUp (c .lower) = up-next (c .lower) (c .upper) (k .lower) (k .upper) (e .next-up) in
       let m = limit-units x₀ dx split l g in
       let a : k .upper .units ≤ b .high .units =
-          le-says (c .upper) upper (k .upper .units) (b .high .units) (k .upper .is) (b .high .is) (k .under) in
+      le-says (c .upper) upper (k .upper .units) (b .high .units) (k .upper .is) (b .high .is) (k .under) in
       let a′ : b .high .units ≤ m .0 = le-says upper (l .«max_t») (b .high .units) (m .0) (b .high .is) (m .1 .is) h in
       let o : k .lower .units < k .upper .units =
-          lt-says (c .lower) (c .upper) (k .lower .units) (k .upper .units) (k .lower .is) (k .upper .is) (e .in-order) in
+      lt-says (c .lower) (c .upper) (k .lower .units) (k .upper .units) (k .lower .is) (k .upper .is) (e .in-order) in
       let under : T (le (c .upper) (l .«max_t»)) =
-          says-le (c .upper) (l .«max_t») (k .upper .units) (m .0) (k .upper .is) (m .1 .is) (le-trans a a′) in
-      (record {
-        in-time = in-time (c .lower) (k .lower)
-            (says-le (c .lower) (l .«max_t») (k .lower .units) (m .0) (k .lower .is) (m .1 .is)
-            (le-of-lt (lt-of-lt-of-le o (le-trans a a′))));
-        far = e .true-below;
-        next-near = ap far (sym n) ∙ e .false-above;
-        next-in-time = subst (λ (t : Float). T (le t (l .«max_t»))) n under;
-      }, le-trans (e .bounded) (lit≤ tt))
+      says-le (c .upper) (l .«max_t») (k .upper .units) (m .0) (k .upper .is) (m .1 .is) (le-trans a a′) in (
+        record {
+          in-time = in-time (c .lower) (k .lower)
+              (says-le (c .lower) (l .«max_t») (k .lower .units) (m .0) (k .lower .is) (m .1 .is)
+              (le-of-lt (lt-of-lt-of-le o (le-trans a a′))));
+          far = e .true-below;
+          next-near = ap far (sym n) ∙ e .false-above;
+          next-in-time = subst (λ (t : Float). T (le t (l .«max_t»))) n under;
+        },
+        le-trans (e .bounded) (lit≤ tt),
+      )
 
   -- ---- every walk
   every : (t : Float) (ps : List Float) → far t ≡ true → (a : Answer) → Says ps a → Says (t ∷ ps) a
@@ -181,7 +190,7 @@ module _ (x₀ dx : List (List Float)) (split : ℕ) (l : Limits) (g : Ground x�
     where
       go : (b c : Bool) → lt (l .«max_t») (next dx split l v) ≡ b → far (next dx split l v) ≡ c
           → (Standing x₀ dx split l g (visit x₀ dx split (next dx split l v))
-            → Kept left (walk x₀ dx split (squaredPark l) l left (visit x₀ dx split (next dx split l v))))
+          → Kept left (walk x₀ dx split (squaredPark l) l left (visit x₀ dx split (next dx split l v))))
           → Kept (suc left) (walk x₀ dx split (squaredPark l) l (suc left) v)
       go true c p a h = clear-keeps v s (suc left) p
       go false true p a h = step-keeps v s left p a (h (stands-on x₀ dx split l g v s p a))

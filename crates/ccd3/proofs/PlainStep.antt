@@ -4,8 +4,16 @@ use mathlib.Core.Path.{_≡_, refl, sym, ap, _∙_, subst}
 use mathlib.Core.Bool.{Bool, true, false}
 use Prim.Native.Nat.{ℕ, _+_, _-_, _*_, _^_, _≤_, _<_}
 use native.Mathlib.Nat.{
-  le-refl, le-trans, le-of-eq, le-of-lt, lt-of-le-of-lt, mul-le-mul, mul-le-mul-right, mul-le-mul-left, one-mul,
-  le-of-mul-le-mul-right
+  le-refl,
+  le-trans,
+  le-of-eq,
+  le-of-lt,
+  lt-of-le-of-lt,
+  mul-le-mul,
+  mul-le-mul-right,
+  mul-le-mul-left,
+  one-mul,
+  le-of-mul-le-mul-right,
 }
 use native.Mathlib.Omega.{arith}
 use lib.Dec.{T, lit<, lit≤}

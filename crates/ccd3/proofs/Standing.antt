@@ -96,11 +96,11 @@ module _ (x₀ dx : List (List Float)) (split : ℕ) (l : Limits) (g : Ground x�
       let s = g .sound-start in
       let v = of-float d (s .fit) (within-finite 60 d (s .bound)) (plus-up d (s .sign)) in
       let order : p .0 ≤ v .0 =
-          nltb→le (v .0) (p .0)
-          (subst (λ (b : Bool). T (not b)) (sym (sym (lt-is d (squaredPark l) (v .0) (p .0) (v .1 .is) (p .1 .is)) ∙ f)) tt) in
+      nltb→le (v .0) (p .0)
+      (subst (λ (b : Bool). T (not b)) (sym (sym (lt-is d (squaredPark l) (v .0) (p .0) (v .1 .is) (p .1 .is)) ∙ f)) tt) in
       let other : eqb (v .0) (p .0) ≡ false =
-          sym (eq-is d (squaredPark l) (v .0) (p .0) (v .1 .is) (p .1 .is))
-          ∙ or-right (le d (squaredOffset l)) (eq d (squaredPark l)) e in
+      sym (eq-is d (squaredPark l) (v .0) (p .0) (v .1 .is) (p .1 .is))
+      ∙ or-right (le d (squaredOffset l)) (eq d (squaredPark l)) e in
       lt-is (squaredPark l) d (p .0) (v .0) (p .1 .is) (v .1 .is) ∙ is-true (ltb (p .0) (v .0))
       (elim (eq-or-lt-of-le order) [
         | inl k ↦ absurd (subst T other (eq→eqb (sym k)))
@@ -137,7 +137,7 @@ module _ (x₀ dx : List (List Float)) (split : ℕ) (l : Limits) (g : Ground x�
       pub next-timely : Timely t
       next-timely =
           let i = of-range t (l .«max_t») (limit-units .0) (next-fits dx split l (g .given) v (s .sound) (subst T (sym (s .apart)) tt))
-              (plus-up t (later .1)) next-limit (limit-units .1 .is) in
+          (plus-up t (later .1)) next-limit (limit-units .1 .is) in
           record {
             units = i .0;
             is = i .1 .is;
@@ -167,8 +167,8 @@ module _ (x₀ dx : List (List Float)) (split : ℕ) (l : Limits) (g : Ground x�
             high = j;
             order = elim (eq-or-lt-of-le h) [
               | inl e ↦ absurd (true≢false (sym (s .apart-at)
-              ∙ ap far (same-float (v .time) t (i .units) (i .fit) (j .fit) (i .sign) (j .sign) (i .is)
-              (subst (λ (u : ℕ). Is t u) (sym e) (j .is))) ∙ b))
+                  ∙ ap far (same-float (v .time) t (i .units) (i .fit) (j .fit) (i .sign) (j .sign) (i .is)
+                  (subst (λ (u : ℕ). Is t u) (sym e) (j .is))) ∙ b))
               | inr k ↦ says-lt (v .time) t (i .units) (j .units) (i .is) (j .is) k
             ];
             top = under-one t (j .units) (j .is) next-limit;

@@ -11,7 +11,13 @@ use Rattle.pair.specs.Admission.{walkRefusal}
 use Rattle.ccd3.specs.declared.Answer.the-variants.{Touching, Refused}
 use Rattle.ccd3.specs.Walk.{Walked, start, walk}
 use Rattle.ccd3.specs.SafeTime.{
-  squaredPark, allowance, still, firstSquared, touches, admittedWalk, safeWalk
+  squaredPark,
+  allowance,
+  still,
+  firstSquared,
+  touches,
+  admittedWalk,
+  safeWalk,
 }
 
 module _ (x₀ dx : List (List Float)) (split : ℕ) (l : Limits) where

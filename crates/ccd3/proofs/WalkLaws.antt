@@ -45,6 +45,6 @@ module _ (x₀ dx : List (List Float)) (split : ℕ) (threshold : Float) (l : Li
   -- and otherwise goes on from there
   pub walk-steps : (left : ℕ) (v : Visit) → past v ≡ false → apart v ≡ true
       → walk x₀ dx split threshold l (suc left) v
-        ≡ probing (next dx split l v) (walk x₀ dx split threshold l left (visit x₀ dx split (next dx split l v)))
+      ≡ probing (next dx split l v) (walk x₀ dx split threshold l left (visit x₀ dx split (next dx split l v)))
   unfolding walk
   walk-steps left v e f = ap (by-limit (by-probe left v (apart v))) e ∙ ap (by-probe left v) f

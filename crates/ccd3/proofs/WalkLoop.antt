@@ -12,7 +12,17 @@ use Rattle.ccd3.specs.declared.SafeTime.{SafeTime}
 use Rattle.ccd3.specs.declared.Answer.the-variants.{Contact, Clear, Budget}
 use Rattle.ccd3.specs.Step.{Visit, next}
 use Rattle.ccd3.specs.Walk.{
-  Walked, visit, above, closing, written, cleared, spent, met, probing, walk, told
+  Walked,
+  visit,
+  above,
+  closing,
+  written,
+  cleared,
+  spent,
+  met,
+  probing,
+  walk,
+  told,
 }
 use Rattle.ccd3.proofs.WalkLaws.{walk-clears, walk-spends, walk-meets, walk-steps}
 

@@ -3,12 +3,17 @@ ghost use mathlib.Core.Path.{_≡_};
 ghost use Prim.Native.Nat.{_<_};
 ghost use Rattle.ccd3.specs.Directional as Def;
 use crate::Aim;
-use geometry::vec3::{dot, sub};
-use number::order::{larger, size, smaller};
+use geometry::vec3::dot;
+use geometry::vec3::sub;
+use number::order::larger;
+use number::order::size;
+use number::order::smaller;
 
 // 2^-22, and what a coordinate may be off.
 const ROUND_SLACK: f32 = 2.384185791015625e-7;
+
 const COORD_SLACK: f32 = 6.2e-7;
+
 const LARGEST: f32 = 3.4028235e38;
 
 // The sizes of the three numbers.

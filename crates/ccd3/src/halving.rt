@@ -14,12 +14,18 @@ pub struct Closed {
 fn is_above(x0: [[f32; 3]; 4], dx: [[f32; 3]; 4], split: usize, threshold: f32, t: f32) -> bool
     ensures { λ r. ⌜ r ≡ Def.above x0 dx split threshold t ⌝ }
 {
-    let near = distance::closest(add_scaled(x0, dx, t), split);
-    threshold < near.squared
+    distance::nearest::is_above(add_scaled(x0, dx, t), split, threshold)
 }
 
 // Midpoints, until the computed window repeats. The last halving, which moves nothing, is counted.
-pub fn close_in(x0: [[f32; 3]; 4], dx: [[f32; 3]; 4], split: usize, threshold: f32, from: f32, to: f32) -> Closed
+pub fn close_in(
+    x0: [[f32; 3]; 4],
+    dx: [[f32; 3]; 4],
+    split: usize,
+    threshold: f32,
+    from: f32,
+    to: f32,
+) -> Closed
     ensures lower { λ r. ⌜ r .lower ≡ Def.closing x0 dx split threshold from to .lower ⌝ }
     ensures count { λ r. ⌜ r .count ≡ Def.closing x0 dx split threshold from to .count ⌝ }
 {

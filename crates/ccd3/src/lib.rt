@@ -23,8 +23,9 @@ pub struct Aim {
     pub park: f32,
     pub max_t: f32,
 }
+
 pub mod directional;
-pub mod step;
 pub mod halving;
-pub mod walk;
 pub mod safe_time;
+pub mod step;
+pub mod walk;

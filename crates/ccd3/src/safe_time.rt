@@ -5,6 +5,7 @@ ghost use Rattle.ccd3.specs.SafeTime as Def;
 use crate::Answer;
 use crate::SafeTime;
 use crate::walk::walk;
+use distance::nearest::nearest;
 use pair::admission::admit_walk;
 use pair::record::Limits;
 
@@ -23,7 +24,7 @@ fn still(answer: Answer) -> SafeTime
 fn admitted(x0: [[f32; 3]; 4], dx: [[f32; 3]; 4], split: usize, l: Limits) -> SafeTime
     ensures { λ r. ⌜ r ≡ told 0 (Def.admittedWalk x0 dx split l) ⌝ }
 {
-    let first = distance::closest(x0, split);
+    let first = nearest(x0, split);
     let park = l.offset + l.clearance;
     let squared_park = park * park;
     if (first.squared <= l.offset * l.offset) | (first.squared == squared_park) {

@@ -3,7 +3,7 @@ ghost use mathlib.Core.Path.{_≡_};
 ghost use Rattle.ccd3.specs.Step as Def;
 use crate::Aim;
 use crate::directional::directional_advance;
-use distance::Nearest;
+use distance::candidate::Nearest;
 use number::order::larger;
 use number::root::root;
 use pair::record::Limits;
@@ -12,7 +12,14 @@ use pair::record::Limits;
 const NORM_SLACK: f32 = 1.0000002384185791;
 
 // The length of the step from `time`, where the points are x and the distance rules say `near`.
-fn step(time: f32, x: [[f32; 3]; 4], near: Nearest, dx: [[f32; 3]; 4], split: usize, l: Limits) -> f32
+fn step(
+    time: f32,
+    x: [[f32; 3]; 4],
+    near: Nearest,
+    dx: [[f32; 3]; 4],
+    split: usize,
+    l: Limits,
+) -> f32
     ensures { λ r. ⌜ r ≡ Def.step dx split l (record { time = time; points = x; near = near }) ⌝ }
 {
     let park = l.offset + l.clearance;
@@ -35,7 +42,14 @@ fn step(time: f32, x: [[f32; 3]; 4], near: Nearest, dx: [[f32; 3]; 4], split: us
 }
 
 // The time after the step.
-pub fn next_time(time: f32, x: [[f32; 3]; 4], near: Nearest, dx: [[f32; 3]; 4], split: usize, l: Limits) -> f32
+pub fn next_time(
+    time: f32,
+    x: [[f32; 3]; 4],
+    near: Nearest,
+    dx: [[f32; 3]; 4],
+    split: usize,
+    l: Limits,
+) -> f32
     ensures { λ r. ⌜ r ≡ Def.next dx split l (record { time = time; points = x; near = near }) ⌝ }
 {
     time + step(time, x, near, dx, split, l)

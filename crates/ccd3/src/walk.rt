@@ -6,7 +6,8 @@ use crate::Answer;
 use crate::SafeTime;
 use crate::halving::close_in;
 use crate::step::next_time;
-use distance::Nearest;
+use distance::candidate::Nearest;
+use distance::nearest::nearest;
 use geometry::mat3x4_array_of_cols::add_scaled;
 use number::order::larger;
 use pair::record::Limits;
@@ -23,10 +24,8 @@ pub fn walk(
     l: Limits,
     first: Nearest,
 ) -> SafeTime
-    ensures {
-        λ r. ⌜ r ≡ Def.told 0 (Def.walk x0 dx split threshold l 4096
-            (record { time = zero32; points = x0; near = first })) ⌝
-    }
+    ensures { λ r. ⌜ r ≡ Def.told 0 (Def.walk x0 dx split threshold l 4096
+        (record { time = zero32; points = x0; near = first })) ⌝ }
 {
     let mut time = 0.0;
     let mut x = x0;
@@ -52,7 +51,7 @@ pub fn walk(
         }
         probes += 1;
         x = add_scaled(x0, dx, next);
-        near = distance::closest(x, split);
+        near = nearest(x, split);
         if threshold < near.squared {
             time = next;
         } else {

@@ -8,7 +8,16 @@ use lib.Ieee.{Float}
 use mathlib.Core.List.{List, [], _∷_}
 use Rattle.ccd3.specs.Directional.{Cross, rows, leastOver, directional, largest}
 use Rattle.ccd3.proofs.CrossPairs.{
-  cross, rest, row-next, row-done, rows-next, rows-done, none-left, pair-stops, pair-passes, all-pairs
+  cross,
+  rest,
+  row-next,
+  row-done,
+  rows-next,
+  rows-done,
+  none-left,
+  pair-stops,
+  pair-passes,
+  all-pairs,
 }
 use Rattle.ccd3.proofs.directional.directional_advance.Statement.{statement}
 use Rattle.ccd3.proofs.directional.directional_advance.Tie as tie
@@ -43,8 +52,8 @@ loop-holds c =
       omega arith,
       omega arith,
       ap (λ (ps : List Cross). leastOver (a .x) (a .dx) (a .a) ps (s .step))
-      (sym (rows-next (a .split) (s .i) (c .sides-test .taken)))
-      ∙ s .inv,
+          (sym (rows-next (a .split) (s .i) (c .sides-test .taken)))
+          ∙ s .inv,
     )
 
 loop-again : tie.Need-loop-again Inv-loop μ-loop Inv-sides μ-sides
@@ -56,11 +65,11 @@ loop-again c =
       omega arith,
       omega arith,
       sym (pair-passes (a .x) (a .dx) (a .a) p (rest (a .split) (s .i) (l .loop .j + 1)) (l .loop .step) _
-      (c .before .before .before .before .projected .ensures) (c .before .rate .result) (c .lessened .result)
-      (c .before .rate .ensures) (c .lessened .ensures) (c .before .before .if1 .left))
-      ∙ ap (λ (ps : List Cross). leastOver (a .x) (a .dx) (a .a) ps (l .loop .step))
-      (sym (row-next (a .split) (s .i) (l .loop .j) (c .before .before .before .before .before .loop-test .taken)))
-      ∙ l .loop .inv .2,
+          (c .before .before .before .before .projected .ensures) (c .before .rate .result) (c .lessened .result)
+          (c .before .rate .ensures) (c .lessened .ensures) (c .before .before .if1 .left))
+          ∙ ap (λ (ps : List Cross). leastOver (a .x) (a .dx) (a .a) ps (l .loop .step))
+          (sym (row-next (a .split) (s .i) (l .loop .j) (c .before .before .before .before .before .loop-test .taken)))
+          ∙ l .loop .inv .2,
     )
 
 sides-again : tie.Need-sides-again Inv-loop μ-loop Inv-sides μ-sides

@@ -41,7 +41,7 @@ module _ (c : tie.Joined1 Inv-loop μ-loop) where
   moved : Moved test (loop .loop .lower) (loop .loop .upper) (c .if1 .lower) (c .if1 .upper)
   moved =
       let r : test (midpoint (loop .loop .lower) (loop .loop .upper)) ≡ c .before .is-above .result =
-          sym (c .before .is-above .ensures) in
+      sym (c .before .is-above .ensures) in
       new-ends test (loop .loop .lower) (loop .loop .upper) (c .if1 .lower) (c .if1 .upper)
       (⊎-elim (λ t. inl (r ∙ t .0 .taken, t .1, t .2)) (λ t. inr (r ∙ t .0 .left, t .1, t .2)) (c .if1 .came))
 
@@ -60,7 +60,7 @@ returns c =
     let j = c .before in
     let l = loop j .loop in
     let e = arrives (test j) (l .count) (l .lower) (l .upper) (j .if1 .lower) (j .if1 .upper) _
-        (j .before .before .loop-test .taken) (l .inv .left) (moved j) (as-kept j true (c .if2 .taken)) in
+    (j .before .before .loop-test .taken) (l .inv .left) (moved j) (as-kept j true (c .if2 .taken)) in
     (ap (λ (h : Halved). h .lower) e, ap (λ (h : Halved). h .count) e)
 
 loop-again : tie.Need-loop-again Inv-loop μ-loop
@@ -84,7 +84,7 @@ returns-2 c =
     let p = above (a .x0) (a .dx) (a .split) (a .threshold) in
     let n : 255 - l .count ≡ 0 = omega (arith, c .loop-test .left) in
     let e = sym (halve-none p (l .count) (l .lower) (l .upper))
-        ∙ ap (λ (k : ℕ). halve p k (l .count) (l .lower) (l .upper)) (sym n) ∙ l .inv .left in
+    ∙ ap (λ (k : ℕ). halve p k (l .count) (l .lower) (l .upper)) (sym n) ∙ l .inv .left in
     (ap (λ (h : Halved). h .lower) e, ap (λ (h : Halved). h .count) e)
 
 pub close-in-spec : {M : Type 1} → statement M

@@ -6,7 +6,7 @@ use Rattle.ccd3.proofs.halving.is_above.Tie as tie
 
 returns : tie.Need-returns
 unfolding squaredAt above
-returns c = rw (c .before .closest .ensures, c .before .before .add-scaled .ensures)
+returns c = rw (c .is-above .ensures, c .before .add-scaled .ensures)
 
 pub is-above-spec : {M : Type 1} → statement M
 is-above-spec = tie.close (tie.spec (λ c κs. search needs) (λ c κs. search needs) returns)

@@ -10,7 +10,7 @@ use lib.Ieee.{Float, lt}
 use Rattle.number.specs.Number.{zero32}
 use Rattle.geometry.specs.Columns.{moved}
 use Rattle.distance.specs.Nearest.{nearestOf}
-use Rattle.distance.specs.declared.Nearest.{Nearest}
+use Rattle.distance.specs.declared.candidate.Nearest.{Nearest}
 use Rattle.pair.specs.declared.record.Limits.{Limits}
 use Rattle.ccd3.specs.declared.SafeTime.{SafeTime}
 use Rattle.ccd3.specs.Step.{Visit, next}
@@ -61,23 +61,23 @@ returns-2 c =
     (s .inv .rest) (n .next-time .result) (n .next-time .ensures) (c .if2 .taken) (c .before .if1 .left)
 
 -- a probe is made at the new time
-module _ (c : tie.After-closest Inv-loop μ-loop) where
+module _ (c : tie.After-nearest Inv-loop μ-loop) where
   abbrev stepped : tie.After-next-time Inv-loop μ-loop
   stepped = c .before .before .before .before .before
 
   abbrev time : Float
   time = stepped .next-time .result
 
-  at-time : c .closest .result
+  at-time : c .nearest .result
       ≡ visit (stepped .before .before .args .x0) (stepped .before .before .args .dx)
-        (stepped .before .before .args .split) time .near
+      (stepped .before .before .args .split) time .near
   at-time =
-      c .closest .ensures
+      c .nearest .ensures
       ∙ ap (nearestOf (stepped .before .before .args .split)) (c .before .add-scaled .ensures)
 
-  apart : (b : Bool) → lt (stepped .before .before .args .threshold) (c .closest .result .squared) ≡ b
+  apart : (b : Bool) → lt (stepped .before .before .args .threshold) (c .nearest .result .squared) ≡ b
       → above (stepped .before .before .args .x0) (stepped .before .before .args .dx)
-        (stepped .before .before .args .split) (stepped .before .before .args .threshold) time ≡ b
+      (stepped .before .before .args .split) (stepped .before .before .args .threshold) time ≡ b
   unfolding above squaredAt
   apart b t = ap (λ (n : Nearest). lt (stepped .before .before .args .threshold) (n .squared)) (sym at-time) ∙ t
 
