@@ -46,7 +46,7 @@ unfolding smaller
 smaller-fits x y p q = pick-fits (lt y x) y x q p
 
 -- what is above something with the sign plus has it too
-above-plus : (x y : Float) → T (plus x) → T (lt x y) → T (plus y)
+pub above-plus : (x y : Float) → T (plus x) → T (lt x y) → T (plus y)
 unfolding lt
 above-plus (fin false m e) (inf false) p h = tt
 above-plus (fin false m e) (inf true) p h = h

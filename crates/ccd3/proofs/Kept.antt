@@ -14,7 +14,7 @@ use lib.Ieee.Bits.{ofBits-toBits, ofBits-fits}
 use lib.Ieee.Fits.{down-pos}
 use Rattle.number.specs.Number.{zero32, larger, nextUp}
 use Rattle.number.specs.Halving.{Halved, halve}
-use Rattle.number.proofs.Units.{L, Is, plus, same-float, lt-is, lt-says, le-says, says-le}
+use Rattle.number.proofs.Units.{L, Is, Unit32, plus, same-float, lt-is, lt-says, le-says, says-le}
 use Rattle.number.proofs.Signs.{plus-up}
 use Rattle.number.proofs.Halvings.{Ends}
 use Rattle.pair.specs.declared.record.Limits.{Limits}
@@ -25,8 +25,10 @@ use Rattle.ccd3.specs.Walk.{Walked, visit, above, closing, written, clea
 use Rattle.ccd3.specs.SafeTime.{squaredPark}
 use Rattle.ccd3.specs.Promise.{InTime, Every, Stopped, Paused}
 use Rattle.ccd3.proofs.WalkLaws.{walk-clears, walk-spends, walk-meets, walk-steps}
-use Rattle.ccd3.proofs.Bracket.{Timely, Bracket, Held, bracket-ends}
+use Rattle.ccd3.proofs.Bracket.{Timely, timely-refl, Bracket, Held, bracket-ends}
+use Rattle.ccd3.proofs.Growth.{above-plus}
 use Rattle.ccd3.proofs.Standing.{
+  zero-timely,
   Ground,
   Standing,
   limit-from,
@@ -100,6 +102,19 @@ module _ (x₀ dx : List (List Float)) (split : ℕ) (l : Limits) (g : Ground x�
 
   in-time : (t : Float) → Timely t → T (le t (l .«max_t»)) → InTime l t
   in-time t i h = record { from = plus-up t (i .sign); to = h; plus = written-plus t i }
+
+  -- the time limit as it is answered
+  pub clear-in-time : (t : Float) → t ≡ written (l .«max_t») → InTime l t
+  unfolding larger
+  clear-in-time t e = subst (InTime l) (sym e) (go (lt zero32 (l .«max_t»)) (above-plus zero32 (l .«max_t») (zero-timely .sign)))
+    where
+      go : (b : Bool) → (T b → T (plus (l .«max_t»))) → InTime l (cond b (l .«max_t») zero32)
+      go true h =
+          let m = limit-units x₀ dx split l g in
+          let i : Timely (l .«max_t») =
+          record { units = m .0; is = m .1 .is; fit = g .limit-fits; sign = h tt } in
+          in-time (l .«max_t») i (timely-refl (l .«max_t») i)
+      go false h = in-time zero32 zero-timely (limit-from x₀ dx split l g)
 
   -- a bracket within the limit stops well
   stopped : (lower upper : Float) → T (le upper (l .«max_t»)) → Bracket far lower upper

@@ -7,6 +7,7 @@ pub mod Growth
 pub mod Standing
 pub mod Kept
 pub mod Promises
+pub mod Clauses
 mod CrossPairs
 mod HalvingLoop
 mod WalkLoop

@@ -14,18 +14,16 @@ use Rattle.ccd3.specs.declared.Answer.{Answer}
 use Rattle.ccd3.specs.declared.Answer.the-variants.{Touching, Contact, Clear, Budget, Refused}
 use Rattle.ccd3.specs.Walk.{Walked, start, walk, written}
 use Rattle.ccd3.specs.SafeTime.{squaredPark, allowance, still, firstSquared, touches, admittedWalk, safeWalk}
-use Rattle.ccd3.specs.Promise.{isFar, Every, Stopped, Paused, Passed, Touched}
+use Rattle.ccd3.specs.Promise.{Stopped, Paused, Passed, Touched}
 use Rattle.ccd3.proofs.StartLaws.{start-touches, start-in-band, start-walks, safe-admitted, safe-refused}
 use Rattle.ccd3.proofs.Standing.{Ground, start-far, start-stands}
-use Rattle.ccd3.proofs.Kept.{Says, Kept, walk-keeps}
+use Rattle.ccd3.proofs.Kept.{Says, Kept, clear-in-time, walk-keeps}
 
 module _ (x₀ dx : List (List Float)) (split : ℕ) (l : Limits) where
   -- what a walk's answer promises, by its case
   abbrev pub Promised : Walked → Answer → Type 0
   Promised w (Contact t) = Stopped x₀ dx split l t
-  Promised w (Clear t) =
-      (t ≡ written (l .«max_t»)) × (lt (squaredPark l) (firstSquared x₀ dx split l) ≡ true)
-      × Every (λ (u : Float). isFar x₀ dx split l u ≡ true) (w .probed)
+  Promised w (Clear t) = Passed x₀ dx split l t (w .probed)
   Promised w (Budget t) = Paused x₀ dx split l t
   Promised w (Touching t) = Touched x₀ dx split l t
   Promised w (Refused n) = (w .probed ≡ []) × (w .halvings ≡ 0)
@@ -41,7 +39,8 @@ module _ (x₀ dx : List (List Float)) (split : ℕ) (l : Limits) where
   told : (w : Walked) (a : Answer) → lt (squaredPark l) (firstSquared x₀ dx split l) ≡ true
       → (g : Ground x₀ dx split l) → Says x₀ dx split l g (w .probed) a → Promised w a
   told w (Contact t) f g h = h
-  told w (Clear t) f g h = (h .0, f, h .1)
+  told w (Clear t) f g h =
+      record { in-time = clear-in-time x₀ dx split l g t (h .0); is-limit = h .0; start-far = f; probes-far = h .1 }
   told w (Budget t) f g h = h
 
   admitted-keeps : Ground x₀ dx split l → Keeps (admittedWalk x₀ dx split l)

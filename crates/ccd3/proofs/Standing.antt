@@ -43,7 +43,7 @@ is-true : (b : Bool) → T b → b ≡ true
 is-true true h = refl
 is-true false h = absurd h
 
-zero-timely : Timely zero32
+pub zero-timely : Timely zero32
 unfolding ofBits
 zero-timely = record { units = 0; is = refl; fit = ofBits-fits binary32 0; sign = tt }
 

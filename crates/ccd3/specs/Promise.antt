@@ -9,7 +9,7 @@ use lib.Ieee.{Float, lt, le}
 use Rattle.number.specs.Number.{zero32, nextUp}
 use Rattle.pair.specs.declared.record.Limits.{Limits}
 use Rattle.ccd3.specs.Walk.{written, above}
-use Rattle.ccd3.specs.SafeTime.{squaredPark, firstSquared, touches, safeWalk}
+use Rattle.ccd3.specs.SafeTime.{squaredPark, firstSquared, touches}
 
 -- a time from 0 to the time limit, a zero with the sign plus
 pub record InTime (l : Limits) (t : Float) : Type 0 where
@@ -39,12 +39,12 @@ module _ (x₀ dx : List (List Float)) (split : ℕ) (l : Limits) where
     pub in-time : InTime l t
     pub far : isFar t ≡ true
 
-  -- clear: it exceeded it at the start and at every probe made
-  pub record Passed (t : Float) : Type 0 where
+  -- clear: it exceeded it at the start and at every probe made, at the times `probed`
+  pub record Passed (t : Float) (probed : List Float) : Type 0 where
     pub in-time : InTime l t
     pub is-limit : t ≡ written (l .«max_t»)
     pub start-far : lt (squaredPark l) (firstSquared x₀ dx split l) ≡ true
-    pub probes-far : Every (λ (u : Float). isFar u ≡ true) (safeWalk x₀ dx split l .probed)
+    pub probes-far : Every (λ (u : Float). isFar u ≡ true) probed
 
   -- touching: at the start it is at most the squared offset, or just the squared park distance
   pub record Touched (t : Float) : Type 0 where
