@@ -13,14 +13,15 @@ use native.Mathlib.Numerals.{add-one}
 use lib.Ieee.Order.{drop, kept}
 use lib.Ieee.{Float, nan, inf, fin, binary32, up, down, round, units, odd, add, sub, mul, lt, le, eq, fits, toBits, ofBits}
 use lib.Ieee.Fits.{add-fits, sub-fits, mul-fits, round-is, eq→eqb}
-use Rattle.number.specs.Number.{zero32, half32, one32}
+use Rattle.number.specs.Number.{zero32, half32, one32, nextUp}
 use Rattle.number.specs.Halving.{midpoint, window, nextLower, nextUpper, repeats, Halved, halve}
 use Rattle.number.proofs.Rounding.{rnd, Rep, rnd-rep}
 use Rattle.number.proofs.Middle.{mid, mid-between}
 use Rattle.number.proofs.Units.{L, Is, Unit32, plus, lt-is, eq-is, same-float, no-size}
 use Rattle.number.proofs.Sums.{add-opens, sum-ff, sum-ft, half-opens, none-le}
-use Rattle.number.proofs.Neighbours.{next-bits}
-use Rattle.number.proofs.Window.{Span, span-of, Split, Step, step-at, mid-at, window-at, neighbours, after, high-finite, T-of}
+use Rattle.number.proofs.Neighbours.{after, next-bits}
+use Rattle.number.proofs.NextUp.{finite-is, next-of}
+use Rattle.number.proofs.Window.{Span, span-of, Split, Step, step-at, mid-at, window-at, neighbours, high-finite, T-of}
 
 -- ---- `round` with the sign plus
 odd-plus : (d q k l : ℕ) → T (plus (odd d false q k l))
@@ -191,6 +192,7 @@ pub record Ends (p : Float → Bool) (r : Halved) : Type 0 where
   pub false-above : p (r .upper) ≡ false
   pub in-order : T (lt (r .lower) (r .upper))
   pub next-up : toBits binary32 (r .upper) ≡ suc (toBits binary32 (r .lower))
+  pub is-next : r .upper ≡ nextUp (r .lower)
   pub none-between : (w : Float) → T (fits binary32 w) → T (lt (r .lower) w) → T (lt w (r .upper)) → ⊥
 
 ends-from : (p : Float → Bool) (k n : ℕ) (lo hi : Float) → n + k ≡ 255 → Inv p n lo hi → Ends p (halve p k n lo hi)
@@ -222,6 +224,7 @@ ends-from p (suc k) n lo hi e i = go (repeats p lo hi) refl (ends-from p k (suc 
       false-above = side-hi p hi (midpoint lo hi) (i .at-hi);
       in-order = new-lt p n lo hi i;
       next-up = new-bits p n lo hi i (none t);
+      is-next = next-of (nextLower p lo hi) (nextUpper p lo hi) (finite-is (nextLower p lo hi) (step p n lo hi i .0) (step p n lo hi i .2 .low .is)) (new-plus-lo p n lo hi i) (new-fit-hi p n lo hi i) (new-bits p n lo hi i (none t));
       none-between = none t;
     }
     go false t ih = ih (next p n lo hi i (λ (y : T (repeats p lo hi)). subst T t y))

@@ -61,7 +61,7 @@ power a = fin false 1 (pos a)
 abbrev pub minus-power : ℕ → Float
 minus-power a = fin true 1 (pos a)
 
-le-of-tests : (A B : ℕ) (c : Bool) → (T c → A ≡ B) → T (ltb A B || (c && true)) → A ≤ B
+pub le-of-tests : (A B : ℕ) (c : Bool) → (T c → A ≡ B) → T (ltb A B || (c && true)) → A ≤ B
 le-of-tests A B c f t = go (ltb A B) c (ltb→lt A B) f t
   where
     go : (b c : Bool) → (T b → A < B) → (T c → A ≡ B) → T (b || (c && true)) → A ≤ B

@@ -23,7 +23,7 @@ use Rattle.number.proofs.Units.{L, Top, Is, Unit32, plus, says-lt}
 use Rattle.number.proofs.Products.{Root}
 use Rattle.number.proofs.Within.{Within, within-finite, within-units, units-within}
 use Rattle.number.proofs.Signs.{power}
-use Rattle.number.proofs.Window.{after}
+use Rattle.number.proofs.Neighbours.{after}
 use Rattle.number.proofs.Patterns.{val, bits-are}
 use Rattle.number.proofs.SquareRoot.Nearest.{count-is}
 use Rattle.number.proofs.SquareRoot.Bits.{unit, val-is, whole-scale}
