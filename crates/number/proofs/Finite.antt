@@ -1,19 +1,17 @@
 -- The finite f32 values: `isFinite` (specs/Range.antt) is a comparison with the largest of them, either way.
 -- Assumes nothing.
-use mathlib.Core.Path.{_≡_, refl, sym, ap, _∙_, subst}
-use mathlib.Core.Logic.{_⊎_, inl, inr}
-use Prim.Native.Nat.{ℕ, zero, suc, _+_, _*_, _^_, _≤_, _<_}
-use native.Mathlib.Nat.{le-trans, le-of-eq, le-of-lt, le-of-suc-le-suc, eq-or-lt-of-le}
-use mathlib.Core.Bool.{Bool, true, false, not, _&&_, _||_}
-use lib.Dec.{T, ltb, eqb, eqb→eq, lit<}
+use mathlib.Core.Path.{_≡_, refl, sym}
+use Prim.Native.Nat.{ℕ, _*_, _^_}
+use native.Mathlib.Nat.{le-trans, le-of-eq, le-of-suc-le-suc}
+use mathlib.Core.Bool.{true, false}
+use lib.Dec.{T, lit<}
 use lib.IntN.{ℤ, pos}
-use lib.Ieee.{Float, nan, inf, fin, binary32, up, down, neg, lt, le, eq, fits, isNan, toBits, ofBits}
+use lib.Ieee.{Float, nan, inf, fin, binary32, neg, le, fits, toBits, ofBits}
 use lib.Ieee.Bits.{is-true}
-use lib.Ieee.Fits.{eq→eqb}
 use lib.Ieee.Scale.{finite}
 use Rattle.number.specs.Number.{largest32}
 use Rattle.number.specs.Range.{isFinite, between}
-use Rattle.number.proofs.Units.{L, Is, Unit32, plus, shift, fin-false, says-le}
+use Rattle.number.proofs.Units.{shift, fin-false, says-le}
 use Rattle.number.proofs.Comparing.{both, minus-plus, turned}
 use Rattle.number.proofs.Sizes.{fits-plus}
 use Rattle.number.proofs.Patterns.{val, val-le, bits-are}

@@ -1,20 +1,19 @@
 -- The bit patterns of the finite f32 values that are not below zero: a pattern's number of units, that a larger pattern has more, and that of two neighbours the upper one has the next pattern. Assumes nothing.
-use mathlib.Core.Path.{_≡_, refl, sym, ap, _∙_, subst}
-use mathlib.Core.Logic.{_⊎_, inl, inr}
-use Prim.Native.Nat.{ℕ, zero, suc, _+_, _-_, _*_, _/_, _%_, _^_, _≤_, _<_}
-use native.Mathlib.Nat.{le-refl, le-trans, le-of-eq, le-of-lt, lt-of-lt-of-le, lt-of-le-of-lt, lt-irrefl, lt-of-not-le, not-le-of-lt, eq-of-mul-eq-mul-right, eq-or-lt-of-le, mod-eq-of-lt, mul-one, mul-assoc, mul-lt-mul-of-pos-right, mul-le-mul-right, pow-succ', add-suc}
+use mathlib.Core.Path.{_≡_, sym, ap, _∙_, subst}
+use mathlib.Core.Logic.{inl, inr}
+use Prim.Native.Nat.{ℕ, suc, _+_, _-_, _*_, _/_, _^_, _≤_, _<_}
+use native.Mathlib.Nat.{le-of-eq, le-of-lt, lt-of-lt-of-le, lt-of-le-of-lt, lt-of-not-le, not-le-of-lt}
+use native.Mathlib.Nat.{eq-of-mul-eq-mul-right, eq-or-lt-of-le}
 use native.Mathlib.Omega.{arith}
-use native.Mathlib.Decide.{decLt, decLe}
-use mathlib.Core.Bool.{Bool, true, false, not, cond}
-use lib.Dec.{T, leb, ltb, eqb, leb→le, ltb→lt, lt→ltb, eqb→eq, not-T}
-use lib.Arith.{lt-of-le-ne}
-use lib.Pow.{pow-pos}
-use lib.Ieee.{Float, nan, inf, fin, binary32, up, down, size, odd, ofFields, ofBits, toBits, fits, isNan, lt, le}
-use lib.Ieee.Bits.{is-false, cond-no, ofBits-toBits, ofBits-fits, toBits-lt}
+use native.Mathlib.Decide.{decLe}
+use mathlib.Core.Bool.{true, false}
+use lib.Dec.{T, ltb→lt, lt→ltb}
+use lib.Ieee.{Float, nan, inf, fin, binary32, up, down, size, ofBits, toBits, fits, lt}
+use lib.Ieee.Bits.{ofBits-toBits, ofBits-fits}
 use lib.Ieee.Digits.{size-le}
 use lib.Ieee.Fits.{down-pos, kept-lt}
 use lib.Ieee.Scale.{finite}
-use Rattle.number.proofs.Units.{L, Top, Is, Unit32, plus, shift, fin-false, no-size, lt-is, pattern, pattern-is}
+use Rattle.number.proofs.Units.{Top, Is, Unit32, plus, shift, fin-false, no-size, lt-is, pattern, pattern-is}
 use Rattle.number.proofs.Patterns.{val, val-next, val-lt, bits-are}
 
 -- ---- a value's own pattern

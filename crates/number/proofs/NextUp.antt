@@ -1,14 +1,14 @@
 -- The next f32 up (`nextUp`, specs/Number.antt) by bit patterns, for every f32. Assumes nothing.
 use mathlib.Core.Path.{_≡_, refl, sym, ap, _∙_, subst}
-use Prim.Native.Nat.{ℕ, zero, suc, _+_, _-_, _*_, _/_, _%_, _^_, _≤_, _<_}
+use Prim.Native.Nat.{ℕ, zero, suc, _+_, _-_, _*_, _%_, _^_, _≤_, _<_}
 use native.Mathlib.Nat.{le-of-eq, lt-irrefl, lt-of-lt-of-le, lt-of-le-of-lt, not-le-of-lt, zero-lt-suc, mul-pos}
 use native.Mathlib.Numerals.{add-one}
 use native.Mathlib.Omega.{arith}
-use mathlib.Core.Bool.{Bool, true, false, not, _&&_, _||_, Bool·beq, true≢false}
-use lib.Dec.{T, ltb, eqb, eqb→eq, ltb→lt, not-T, nltb→le, lit<, lit≤}
+use mathlib.Core.Bool.{Bool, true, false, not, _||_, Bool·beq, true≢false}
+use lib.Dec.{T, eqb, eqb→eq, lit<, lit≤}
 use lib.IntN.{ℤ}
 use lib.Ieee.{Float, nan, inf, fin, binary32, up, down, eq, ne, fits, lt, isNan, nanBits, level, toBits, ofBits}
-use lib.Ieee.Bits.{ofBits-toBits, toBits-lt, nanBits-is, nanBits-above}
+use lib.Ieee.Bits.{ofBits-toBits, toBits-lt}
 use lib.Ieee.Compare.{differs-from-itself}
 use lib.Ieee.Fits.{and-i, and-l, eq→eqb, up-pos}
 use lib.Ieee.Scale.{finite}

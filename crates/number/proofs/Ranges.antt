@@ -2,20 +2,20 @@
 -- constant by its bit pattern. Assumes nothing.
 use mathlib.Core.Path.{_≡_, sym, ap, _∙_, subst}
 use mathlib.Core.Logic.{inl, inr}
-use Prim.Native.Nat.{ℕ, suc, _+_, _-_, _*_, _/_, _^_, _≤_, _<_, zero-le}
+use Prim.Native.Nat.{ℕ, suc, _+_, _-_, _*_, _^_, _≤_, _<_}
 use native.Mathlib.Nat.{le-trans, le-of-eq, lt-of-le-of-lt, eq-zero-or-pos}
 use native.Mathlib.Omega.{arith}
-use mathlib.Core.Bool.{Bool, true, false, _&&_, _||_}
-use lib.Dec.{T, ltb, eqb, eqb→eq, lt→ltb}
+use mathlib.Core.Bool.{true, false}
+use lib.Dec.{T, eqb, eqb→eq, lt→ltb}
 use lib.IntN.{pos, negsuc}
 use lib.Pow.{pow-add}
-use lib.Ieee.{Float, nan, inf, fin, binary32, up, down, neg, lt, le, ofBits}
+use lib.Ieee.{Float, inf, fin, binary32, up, down, neg, lt, le, ofBits}
 use lib.Ieee.Fits.{and-l, and-r, down-pos}
 use lib.Ieee.Scale.{finite}
 use Rattle.number.specs.Number.{zero32, one32}
-use Rattle.number.specs.Range.{limit, minusLimit, leastSpeed, mostSpeed}
-use Rattle.number.specs.Range.{inLimit, zeroToLimit, zeroToOne, aboveZeroToOne, speedRange}
-use Rattle.number.proofs.Units.{L, Is, plus}
+use Rattle.number.specs.Range.{limit, minusLimit, leastSpeed, mostSpeed, inLimit, zeroToLimit, zeroToOne}
+use Rattle.number.specs.Range.{aboveZeroToOne, speedRange}
+use Rattle.number.proofs.Units.{L}
 use Rattle.number.proofs.Within.{Within, within-finite, units-within}
 use Rattle.number.proofs.Signs.{power, within-tests, le-of-tests, AtLeast}
 use Rattle.number.proofs.Comparing.{lt-le, minus-plus}

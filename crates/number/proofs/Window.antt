@@ -1,22 +1,20 @@
 -- The halving of a span of f32 times between 0 and 1, until the computed window repeats: it ends at neighbours, after at most 255 halvings. Assumes nothing.
-use mathlib.Core.Path.{_≡_, refl, sym, ap, _∙_, subst}
+use mathlib.Core.Path.{_≡_, refl, sym, subst}
 use mathlib.Core.Logic.{_⊎_, inl, inr}
-use Prim.Native.Nat.{ℕ, zero, suc, _+_, _-_, _*_, _^_, _≤_, _<_, zero-le}
-use native.Mathlib.Nat.{le-refl, le-trans, le-of-eq, le-of-lt, lt-of-lt-of-le, lt-of-le-of-lt, lt-irrefl, add-comm, mul-one, mul-pos, mul-le-mul-right, pow-suc}
+use Prim.Native.Nat.{ℕ, _+_, _-_, _*_, _^_, _≤_, _<_}
+use native.Mathlib.Nat.{le-refl, le-trans, le-of-eq, le-of-lt, lt-of-lt-of-le, lt-of-le-of-lt, lt-irrefl, add-comm}
+use native.Mathlib.Nat.{mul-le-mul-right}
 use native.Mathlib.Omega.{arith}
-use native.Mathlib.Decide.{ℕ-discrete}
-use mathlib.Core.Bool.{Bool, true, false, not, cond, true≢false, false≢true}
-use lib.IntN.{ℤ, pos, negsuc}
-use lib.Dec.{T, ltb, eqb, leb, ltb→lt, lt→ltb, leb→le, eqb→eq, eqb-refl, lit<, lit≤}
+use mathlib.Core.Bool.{Bool, true, false}
+use lib.Dec.{T, ltb→lt, leb→le, eqb→eq, lit<, lit≤}
 use lib.Pow.{pow-pos}
-use lib.Ieee.{Float, nan, inf, fin, binary32, up, down, round, add, sub, mul, lt, le, eq, fits, ofBits}
-use lib.Ieee.Fits.{add-fits, sub-fits, mul-fits}
+use lib.Ieee.{Float, nan, inf, fin, binary32, add, lt, le, eq, fits, ofBits}
 use lib.Ieee.Scale.{finite}
 use Rattle.number.specs.Number.{zero32, one32}
 use Rattle.number.specs.Halving.{midpoint, window}
 use Rattle.number.proofs.Rounding.{rnd, Rep, rnd-mono, rnd-fix, rnd-rep, rnd-less}
 use Rattle.number.proofs.Middle.{mid, mid-between, mid-third, Third}
-use Rattle.number.proofs.Units.{L, Top, Is, Unit32, plus, lt-is, le-is, eq-is, of-float, same-float, fin-false, shift, no-size}
+use Rattle.number.proofs.Units.{L, Top, Is, Unit32, lt-is, le-is, eq-is, of-float}
 use Rattle.number.proofs.Neighbours.{after, below-finite}
 use Rattle.number.proofs.Sums.{add-is, sub-is, half-is}
 

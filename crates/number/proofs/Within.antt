@@ -1,20 +1,20 @@
 -- Finite f32 values by how large they can be: `Within a x` says that x is finite and at most 2 ^ a in size. Sums, differences and products stay within the sum's and the product's bound, so no NaN and no infinity arises.
 -- A quotient by a number that is not zero is no NaN, and what is no NaN is clamped to 0..1. Assumes nothing.
-use mathlib.Core.Path.{_≡_, refl, sym, ap, _∙_, subst}
-use mathlib.Core.Logic.{_⊎_, inl, inr}
-use Prim.Native.Nat.{ℕ, zero, suc, _+_, _-_, _*_, _/_, _%_, _^_, _≤_, _<_, zero-le}
-use native.Mathlib.Nat.{le-refl, le-trans, le-of-eq, le-of-lt, lt-of-lt-of-le, lt-of-le-of-lt, lt-irrefl, eq-or-lt-of-le, eq-zero-or-pos, zero-mul, mul-one, one-mul, mul-assoc, mul-comm, mul-left-comm, mul-right-comm, mul-mul-mul-comm, mul-pos, mul-le-mul, mul-le-mul-right, mul-le-mul-left, le-of-mul-le-mul-right, pow-suc}
+use mathlib.Core.Path.{_≡_, sym, ap, _∙_, subst}
+use Prim.Native.Nat.{ℕ, zero, suc, _+_, _-_, _*_, _^_, _≤_, _<_}
+use native.Mathlib.Nat.{le-trans, le-of-eq, lt-of-le-of-lt, mul-one, one-mul, mul-assoc, mul-comm, mul-right-comm}
+use native.Mathlib.Nat.{mul-mul-mul-comm, mul-pos, mul-le-mul, mul-le-mul-right, le-of-mul-le-mul-right, pow-suc}
 use native.Mathlib.Omega.{arith}
-use mathlib.Core.Bool.{Bool, true, false, not, _&&_, _||_, cond, Bool·beq}
-use lib.IntN.{ℤ, pos, negsuc}
-use lib.Dec.{T, ltb, eqb, leb, ltb→lt, lt→ltb, nltb→le, eqb→eq, lit<, lit≤}
+use mathlib.Core.Bool.{Bool, true, false, not, _&&_, cond, Bool·beq}
+use lib.Dec.{T, ltb, eqb, ltb→lt, eqb→eq, lit<, lit≤}
 use lib.Pow.{pow-add, pow-pos, pow-mono, pow-lt}
-use lib.Ieee.{Float, nan, inf, fin, binary32, up, down, round, units, odd, sum, add, sub, mul, div, neg, lt, le, eq, isNan, unlike, below, level, ofBits}
-use lib.Ieee.Fits.{up-pos, down-pos, round-is, eq→eqb}
+use lib.Ieee.{Float, nan, inf, fin, binary32, up, down, round, units, odd, sum, add, sub, mul, div, neg, lt, isNan}
+use lib.Ieee.{unlike, ofBits}
+use lib.Ieee.Fits.{down-pos, round-is}
 use lib.Ieee.Exact.{HasValue}
 use lib.Ieee.Scale.{finite}
 use lib.Ieee.Order.{drop, kept}
-use Rattle.number.specs.Number.{zero32, one32, clamp}
+use Rattle.number.specs.Number.{zero32}
 pub use Rattle.number.proofs.Comparing.{or-l, or-r, both, not-lt-le}
 pub use Rattle.number.proofs.Choice.{clamp-in}
 use Rattle.number.proofs.Rounding.{rnd, Rep, rnd-mono, rnd-fix}
