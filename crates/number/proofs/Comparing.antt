@@ -29,7 +29,8 @@ total-nat false false a b h = elim (eq-or-lt-of-le (nltb→le a b h)) [
   | inr l ↦ or-l (ltb b a) (eqb b a && true) (lt→ltb b a l)
 ]
 total-nat false true a b h = elim (eq-zero-or-pos (b + a)) [
-  | inl z ↦ or-r (ltb 0 (b + a)) (eqb b a && eqb b 0) (both (eqb b a) (eqb b 0) (eq→eqb (same b a z)) (eq→eqb (first b a z)))
+  | inl z ↦ or-r (ltb 0 (b + a)) (eqb b a && eqb b 0)
+      (both (eqb b a) (eqb b 0) (eq→eqb (same b a z)) (eq→eqb (first b a z)))
   | inr l ↦ or-l (ltb 0 (b + a)) (eqb b a && eqb b 0) (lt→ltb 0 (b + a) l)
 ]
   where
@@ -83,7 +84,8 @@ unfolding lt isNan
 minus-plus m e n d = not-lt-le (fin false n d) (fin true m e) tt tt tt
 
 -- with either sign changed the order is turned round
-pub turned : (m : ℕ) (e : ℤ) (n : ℕ) (d : ℤ) → T (le (fin false m e) (fin false n d)) → T (le (fin true n d) (fin true m e))
+pub turned : (m : ℕ) (e : ℤ) (n : ℕ) (d : ℤ) → T (le (fin false m e) (fin false n d))
+    → T (le (fin true n d) (fin true m e))
 unfolding le
 turned m e n d h = go (ltb a b) (eqb a b) (λ t. eq→eqb (sym (eqb→eq a b t))) h
   where

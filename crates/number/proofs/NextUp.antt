@@ -76,7 +76,9 @@ zero-eq s e = go (0 * up e * 1) (0 * 1 * down e) (none (up e) 1) (none 1 (down e
     none a b = omega arith
 
     go : (a b : ℕ) → a ≡ 0 → b ≡ 0 → (s : Bool) → T (level s a false b)
-    go a b p q s = and-i (eqb a b) (Bool·beq s false || eqb a 0) (eq→eqb (p ∙ sym q)) (or-r (Bool·beq s false) (eqb a 0) (eq→eqb p))
+    go a b p q s =
+        and-i (eqb a b) (Bool·beq s false || eqb a 0) (eq→eqb (p ∙ sym q))
+        (or-r (Bool·beq s false) (eqb a 0) (eq→eqb p))
 
 pub up-zero : (x : Float) → eq x zero32 ≡ true → ofBits binary32 1 ≡ nextUp x
 unfolding nextUp eq ofBits
@@ -105,7 +107,8 @@ up-minus (inf true) f n z l = ap (ofBits binary32) (unfold toBits in refl)
 up-minus (inf false) f n z l = absurd (unfold toBits in not-le-of-lt (lit< tt) l)
 up-minus (fin s zero e) f n z l = absurd (subst T z (zero-eq s e))
 up-minus (fin false (suc m) e) f n z l =
-    absurd (not-le-of-lt (lt-of-lt-of-le (bits-lt (fin false (suc m) e) (suc m * 2 ^ shift e) f tt (fin-false (suc m) e f)) (lit≤ tt)) l)
+    absurd (not-le-of-lt (lt-of-lt-of-le (bits-lt (fin false (suc m) e) (suc m * 2 ^ shift e) f tt (fin-false (suc m)
+    e f)) (lit≤ tt)) l)
 up-minus (fin true (suc m) e) f n z l = refl
 
 -- ---- from zero up the next value has the next pattern

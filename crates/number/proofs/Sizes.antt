@@ -1,4 +1,5 @@
--- The absolute value `size` (specs/Number.antt): what `0 - x` is for an x not above zero, and that a size has the sign
+-- The absolute value `size` (specs/Number.antt): what `0 - x` is for an x not above zero, and that a size has the
+-- sign
 -- plus, fits where its number does, and keeps its bound. Assumes nothing.
 use mathlib.Core.Path.{_≡_, refl, sym, ap, _∙_, subst}
 use Prim.Native.Nat.{ℕ, zero, suc, _+_, _*_, _^_, _<_}
@@ -32,7 +33,8 @@ sum-zero : (m : ℕ) (e : ℤ) → T (fits binary32 (fin false m e)) → zero32 
 sum-zero m e f =
     let u = m * 2 ^ shift e in
     let i = fin-false m e f in
-    let r : rnd (0 + u) 1 ≡ u = ap (λ (x : ℕ). rnd x 1) (zero-add u ∙ sym (mul-one u)) ∙ rnd-fix u 1 (pow-pos 0) (i .rep) in
+    let r : rnd (0 + u) 1 ≡ u =
+    ap (λ (x : ℕ). rnd x 1) (zero-add u ∙ sym (mul-one u)) ∙ rnd-fix u 1 (pow-pos 0) (i .rep) in
     same-float (zero32 ⊕ fin false m e) (fin false m e) u (add-fits binary32 zero32 (fin false m e)) f
     (sum-plus zero32 (fin false m e) zero-plus tt) tt
     (subst (λ (x : ℕ). Is (zero32 ⊕ fin false m e) x) r

@@ -1,4 +1,5 @@
--- A float that is not below zero as a whole number of units of 2 ^ -149: `Is x u`. Either zero is 0 units. Comparisons of such floats are those of the whole numbers. Assumes nothing.
+-- A float that is not below zero as a whole number of units of 2 ^ -149: `Is x u`. Either zero is 0 units.
+-- Comparisons of such floats are those of the whole numbers. Assumes nothing.
 use mathlib.Core.Path.{_≡_, refl, sym, ap, _∙_, subst}
 use mathlib.Core.Logic.{_⊎_, inl, inr}
 use Prim.Native.Nat.{ℕ, zero, suc, _+_, _-_, _*_, _/_, _%_, _^_, _≤_, _<_}
@@ -41,13 +42,18 @@ module _ (a b de dd l u v : ℕ) (D : 0 < de) (E : 0 < dd) (K : 0 < l) (p : a * 
   left = mul-right-comm a dd l ∙ ap (λ (x : ℕ). x * dd) p ∙ mul-assoc u de dd
 
   pub right : b * de * l ≡ v * (de * dd)
-  right = mul-right-comm b de l ∙ ap (λ (x : ℕ). x * de) q ∙ mul-assoc v dd de ∙ ap (λ (x : ℕ). v * x) (mul-comm dd de)
+  right =
+      mul-right-comm b de l ∙ ap (λ (x : ℕ). x * de) q ∙ mul-assoc v dd de ∙ ap (λ (x : ℕ). v * x) (mul-comm dd de)
 
   pub cross-lt : a * dd < b * de → u < v
-  cross-lt h = lt-of-mul-lt-mul-right (de * dd) (lt-of-le-of-lt (le-of-eq (sym left)) (lt-of-lt-of-le (mul-lt-mul-of-pos-right h K) (le-of-eq right)))
+  cross-lt h =
+      lt-of-mul-lt-mul-right (de * dd)
+      (lt-of-le-of-lt (le-of-eq (sym left)) (lt-of-lt-of-le (mul-lt-mul-of-pos-right h K) (le-of-eq right)))
 
   pub lt-cross : u < v → a * dd < b * de
-  lt-cross h = lt-of-mul-lt-mul-right l (lt-of-le-of-lt (le-of-eq left) (lt-of-lt-of-le (mul-lt-mul-of-pos-right h (mul-pos D E)) (le-of-eq (sym right))))
+  lt-cross h =
+      lt-of-mul-lt-mul-right l (lt-of-le-of-lt (le-of-eq left)
+      (lt-of-lt-of-le (mul-lt-mul-of-pos-right h (mul-pos D E)) (le-of-eq (sym right))))
 
   pub cross-eq : a * dd ≡ b * de → u ≡ v
   cross-eq h = eq-of-mul-eq-mul-right (de * dd) (mul-pos D E) u v (sym left ∙ ap (λ (x : ℕ). x * l) h ∙ right)
@@ -56,15 +62,20 @@ module _ (a b de dd l u v : ℕ) (D : 0 < de) (E : 0 < dd) (K : 0 < l) (p : a * 
   eq-cross h = eq-of-mul-eq-mul-right l K (a * dd) (b * de) (left ∙ ap (λ (x : ℕ). x * (de * dd)) h ∙ sym right)
 
   ltb-cross : ltb (a * dd) (b * de) ≡ ltb u v
-  ltb-cross = same-test (ltb (a * dd) (b * de)) (ltb u v) (λ t. lt→ltb u v (cross-lt (ltb→lt (a * dd) (b * de) t))) (λ t. lt→ltb (a * dd) (b * de) (lt-cross (ltb→lt u v t)))
+  ltb-cross =
+      same-test (ltb (a * dd) (b * de)) (ltb u v) (λ t. lt→ltb u v (cross-lt (ltb→lt (a * dd) (b * de) t)))
+      (λ t. lt→ltb (a * dd) (b * de) (lt-cross (ltb→lt u v t)))
 
   eqb-cross : eqb (a * dd) (b * de) ≡ eqb u v
-  eqb-cross = same-test (eqb (a * dd) (b * de)) (eqb u v) (λ t. eq→eqb (cross-eq (eqb→eq (a * dd) (b * de) t))) (λ t. eq→eqb (eq-cross (eqb→eq u v t)))
+  eqb-cross =
+      same-test (eqb (a * dd) (b * de)) (eqb u v) (λ t. eq→eqb (cross-eq (eqb→eq (a * dd) (b * de) t)))
+      (λ t. eq→eqb (eq-cross (eqb→eq u v t)))
 
 -- the magnitude of either sign
 pub size-is : (s : Bool) (m : ℕ) (e : ℤ) (u : ℕ) → Is (fin s m e) u → m * up e * L ≡ u * down e
 size-is false m e u h = h
-size-is true m e u h = ap (λ (x : ℕ). x * up e * L) (h .0) ∙ none (up e) L (down e) ∙ ap (λ (x : ℕ). x * down e) (sym (h .1))
+size-is true m e u h =
+    ap (λ (x : ℕ). x * up e * L) (h .0) ∙ none (up e) L (down e) ∙ ap (λ (x : ℕ). x * down e) (sym (h .1))
   where
     none : (a b c : ℕ) → 0 * a * b ≡ 0 * c
     none a b c = omega arith
@@ -92,13 +103,15 @@ no-size m a b e = ap (λ (x : ℕ). x * a * b) e ∙ zeros a b
 -- ---- the comparisons
 pub lt-is : (x y : Float) (u v : ℕ) → Is x u → Is y v → lt x y ≡ ltb u v
 unfolding lt
-lt-is (fin false m e) (fin false n d) u v p q = ltb-cross (m * up e) (n * up d) (down e) (down d) L u v (down-pos e) (down-pos d) (pow-pos 149) p q
+lt-is (fin false m e) (fin false n d) u v p q =
+    ltb-cross (m * up e) (n * up d) (down e) (down d) L u v (down-pos e) (down-pos d) (pow-pos 149) p q
 lt-is (fin false m e) (fin true n d) u v p q = sym (no-ltb u) ∙ ap (λ (x : ℕ). ltb u x) (sym (q .1))
 lt-is (fin true m e) (fin false n d) u v p q =
     ap (λ (x : ℕ). ltb 0 (x * up e * down d + n * up d * down e)) (p .0)
     ∙ ap (λ (x : ℕ). ltb x (0 * up e * down d + n * up d * down e)) (sym (zeros (up e) (down d)))
     ∙ ap (λ (x : ℕ). ltb (0 * up e * down d) x) (drop (up e) (down d) (n * up d * down e))
-    ∙ ltb-cross (0 * up e) (n * up d) (down e) (down d) L 0 v (down-pos e) (down-pos d) (pow-pos 149) (size-is true 0 e 0 (refl, refl)) q
+    ∙ ltb-cross (0 * up e) (n * up d) (down e) (down d) L 0 v (down-pos e) (down-pos d) (pow-pos 149)
+    (size-is true 0 e 0 (refl, refl)) q
     ∙ ap (λ (x : ℕ). ltb x v) (sym (p .1))
   where
     zeros : (a b : ℕ) → 0 * a * b ≡ 0
@@ -107,7 +120,8 @@ lt-is (fin true m e) (fin false n d) u v p q =
     drop : (a b c : ℕ) → 0 * a * b + c ≡ c
     drop a b c = omega arith
 lt-is (fin true m e) (fin true n d) u v p q =
-    ap (λ (x : ℕ). ltb (n * up d * down e) (x * up e * down d)) (p .0) ∙ ap (λ (x : ℕ). ltb (n * up d * down e) x) (zeros (up e) (down d)) ∙ no-ltb (n * up d * down e)
+    ap (λ (x : ℕ). ltb (n * up d * down e) (x * up e * down d)) (p .0)
+    ∙ ap (λ (x : ℕ). ltb (n * up d * down e) x) (zeros (up e) (down d)) ∙ no-ltb (n * up d * down e)
     ∙ sym (no-ltb u) ∙ ap (λ (x : ℕ). ltb u x) (sym (q .1))
   where
     zeros : (a b : ℕ) → 0 * a * b ≡ 0
@@ -115,20 +129,31 @@ lt-is (fin true m e) (fin true n d) u v p q =
 
 pub eq-is : (x y : Float) (u v : ℕ) → Is x u → Is y v → eq x y ≡ eqb u v
 unfolding eq
-eq-is (fin false m e) (fin false n d) u v p q = and-true (eqb (m * up e * down d) (n * up d * down e)) ∙ eqb-cross (m * up e) (n * up d) (down e) (down d) L u v (down-pos e) (down-pos d) (pow-pos 149) p q
+eq-is (fin false m e) (fin false n d) u v p q =
+    and-true (eqb (m * up e * down d) (n * up d * down e))
+    ∙ eqb-cross (m * up e) (n * up d) (down e) (down d) L u v (down-pos e) (down-pos d) (pow-pos 149) p q
 eq-is (fin false m e) (fin true n d) u v p q =
-    ap (λ (x : ℕ). eqb (m * up e * down d) (n * up d * down e) && eqb (m * up e * down d) x) (sym (no-size n (up d) (down e) (q .0)))
+    ap (λ (x : ℕ). eqb (m * up e * down d) (n * up d * down e) && eqb (m * up e * down d) x)
+    (sym (no-size n (up d) (down e) (q .0)))
     ∙ and-same (eqb (m * up e * down d) (n * up d * down e))
-    ∙ eqb-cross (m * up e) (n * up d) (down e) (down d) L u v (down-pos e) (down-pos d) (pow-pos 149) p (size-is true n d v q)
+    ∙ eqb-cross (m * up e) (n * up d) (down e) (down d) L u v (down-pos e) (down-pos d) (pow-pos 149) p
+    (size-is true n d v q)
 eq-is (fin true m e) (fin false n d) u v p q =
     ap (λ (x : ℕ). eqb (m * up e * down d) (n * up d * down e) && eqb x 0) (no-size m (up e) (down d) (p .0))
     ∙ and-true (eqb (m * up e * down d) (n * up d * down e))
-    ∙ eqb-cross (m * up e) (n * up d) (down e) (down d) L u v (down-pos e) (down-pos d) (pow-pos 149) (size-is true m e u p) q
-eq-is (fin true m e) (fin true n d) u v p q = and-true (eqb (m * up e * down d) (n * up d * down e)) ∙ eqb-cross (m * up e) (n * up d) (down e) (down d) L u v (down-pos e) (down-pos d) (pow-pos 149) (size-is true m e u p) (size-is true n d v q)
+    ∙ eqb-cross (m * up e) (n * up d) (down e) (down d) L u v (down-pos e) (down-pos d) (pow-pos 149)
+    (size-is true m e u p) q
+eq-is (fin true m e) (fin true n d) u v p q =
+    and-true (eqb (m * up e * down d) (n * up d * down e))
+    ∙ eqb-cross (m * up e) (n * up d) (down e) (down d) L u v (down-pos e) (down-pos d) (pow-pos 149)
+    (size-is true m e u p) (size-is true n d v q)
 
 pub le-is : (x y : Float) (u v : ℕ) → Is x u → Is y v → le x y ≡ leb u v
 unfolding le
-le-is x y u v p q = ap (λ (b : Bool). b || eq x y) (lt-is x y u v p q) ∙ ap (λ (b : Bool). ltb u v || b) (eq-is x y u v p q) ∙ same-test (ltb u v || eqb u v) (leb u v) (λ t. le→leb u v (to (ltb u v) (eqb u v) (ltb→lt u v) (eqb→eq u v) t)) (λ t. from (eq-or-lt-of-le (leb→le u v t)))
+le-is x y u v p q =
+    ap (λ (b : Bool). b || eq x y) (lt-is x y u v p q) ∙ ap (λ (b : Bool). ltb u v || b) (eq-is x y u v p q)
+    ∙ same-test (ltb u v || eqb u v) (leb u v) (λ t. le→leb u v (to (ltb u v) (eqb u v) (ltb→lt u v) (eqb→eq u v) t))
+    (λ t. from (eq-or-lt-of-le (leb→le u v t)))
   where
     to : (a b : Bool) → (T a → u < v) → (T b → u ≡ v) → T (a || b) → u ≤ v
     to true b f g t = le-of-lt (f tt)
@@ -152,13 +177,17 @@ shift (pos a) = a + 149
 shift (negsuc a) = 149 - suc a
 
 pow-le-back : (a l : ℕ) → 2 ^ a ≤ 2 ^ l → a ≤ l
-pow-le-back a l h = le-of-suc-le-suc (lt-of-not-le (λ (g : suc l ≤ a). lt-irrefl (2 ^ l) (lt-of-lt-of-le (pow-lt g) h)))
+pow-le-back a l h =
+    le-of-suc-le-suc (lt-of-not-le (λ (g : suc l ≤ a). lt-irrefl (2 ^ l) (lt-of-lt-of-le (pow-lt g) h)))
 
 pub shift-is : (m : ℕ) (e : ℤ) → down e ≤ L → m * up e * L ≡ m * 2 ^ shift e * down e
-shift-is m (pos a) h = mul-assoc m (2 ^ a) L ∙ ap (λ (x : ℕ). m * x) (sym (pow-add 2 a 149)) ∙ sym (mul-one (m * 2 ^ (a + 149)))
+shift-is m (pos a) h =
+    mul-assoc m (2 ^ a) L ∙ ap (λ (x : ℕ). m * x) (sym (pow-add 2 a 149)) ∙ sym (mul-one (m * 2 ^ (a + 149)))
 shift-is m (negsuc a) h =
     let l : suc a ≤ 149 = pow-le-back (suc a) 149 h in
-    ap (λ (x : ℕ). x * L) (mul-one m) ∙ ap (λ (x : ℕ). m * x) (ap (λ (x : ℕ). 2 ^ x) (sym (back 149 (suc a) l)) ∙ pow-add 2 (149 - suc a) (suc a)) ∙ sym (mul-assoc m (2 ^ (149 - suc a)) (2 ^ suc a))
+    ap (λ (x : ℕ). x * L) (mul-one m)
+    ∙ ap (λ (x : ℕ). m * x) (ap (λ (x : ℕ). 2 ^ x) (sym (back 149 (suc a) l)) ∙ pow-add 2 (149 - suc a) (suc a))
+    ∙ sym (mul-assoc m (2 ^ (149 - suc a)) (2 ^ suc a))
 
 -- what it takes to fit
 pub record Fit (m : ℕ) (e : ℤ) : Type 0 where
@@ -168,7 +197,13 @@ pub record Fit (m : ℕ) (e : ℤ) : Type 0 where
 
 pub fit : (s : Bool) (m : ℕ) (e : ℤ) → T (fits binary32 (fin s m e)) → Fit m e
 unfolding fits
-fit s zero e t = record { digits = lit< tt; deep = flat e (eqb→eq (up e * down e) 1 t); high = subst (λ (x : ℕ). x < 2 ^ 128 * down e) (sym (zero-mul (up e))) (mul-pos (pow-pos 128) (down-pos e)) }
+fit s zero e t =
+    record {
+      digits = lit< tt;
+      deep = flat e (eqb→eq (up e * down e) 1 t);
+      high = subst
+          (λ (x : ℕ). x < 2 ^ 128 * down e) (sym (zero-mul (up e))) (mul-pos (pow-pos 128) (down-pos e));
+    }
   where
     one : (a b : ℕ) → 0 < a → a * b ≡ 1 → b ≤ 1
     one (suc a) b h e = omega arith
@@ -205,18 +240,31 @@ fin-false m e t =
       under =
           lt-of-mul-lt-mul-right (down e)
           (lt-of-le-of-lt (le-of-eq (sym (shift-is m e (k .deep))))
-          (lt-of-lt-of-le (mul-lt-mul-of-pos-right (k .high) (pow-pos 149)) (le-of-eq (mul-right-comm (2 ^ 128) (down e) L))));
+          (lt-of-lt-of-le (mul-lt-mul-of-pos-right (k .high) (pow-pos 149))
+          (le-of-eq (mul-right-comm (2 ^ 128) (down e) L))));
     }
 
 pub none-of : (m a b : ℕ) → 0 < a → 0 < b → m * a * b ≡ 0 → m ≡ 0
-none-of m a b A B h = elim (eq-zero-or-pos m) [ inl z ↦ z | inr p ↦ absurd (lt-irrefl 0 (subst (λ (x : ℕ). 0 < x) h (mul-pos (mul-pos p A) B))) ]
+none-of m a b A B h =
+    elim (eq-zero-or-pos m) [
+      | inl z ↦ z
+      | inr p ↦ absurd
+          (lt-irrefl 0 (subst (λ (x : ℕ). 0 < x) h (mul-pos (mul-pos p A) B)))
+    ]
 
 pub of-float : (x : Float) → T (fits binary32 x) → T (finite x) → T (le zero32 x) → (u : ℕ) × Unit32 x u
 unfolding le ofBits
 of-float (fin false m e) t f h = (m * 2 ^ shift e, fin-false m e t)
 of-float (fin true m e) t f h =
-    let z : 0 * down e ≡ m * up e * 1 = eqb→eq (0 * down e) (m * up e * 1) (and-l (eqb (0 * down e) (m * up e * 1)) (eqb (0 * down e) 0) h) in
-    (0, record { is = (none-of m (up e) 1 (up-pos e) (pow-pos 0) (sym z ∙ zero-mul (down e)), refl); rep = (0, 0, lit< tt, refl); under = pow-pos 277 })
+    let z : 0 * down e ≡ m * up e * 1 =
+    eqb→eq (0 * down e) (m * up e * 1) (and-l (eqb (0 * down e) (m * up e * 1)) (eqb (0 * down e) 0) h) in (
+      0,
+      record {
+        is = (none-of m (up e) 1 (up-pos e) (pow-pos 0) (sym z ∙ zero-mul (down e)), refl);
+        rep = (0, 0, lit< tt, refl);
+        under = pow-pos 277;
+      },
+    )
 
 -- ---- a float of which the sign is plus is told by its units
 abbrev pub plus : Float → Bool
@@ -231,11 +279,15 @@ pub pattern-is : (x : Float) (u : ℕ) → T (plus x) → Is x u → toBits bina
 unfolding toBits
 pattern-is (fin false m e) u p h = ap pattern (ap (λ (y : ℕ). y / down e) h ∙ mul-div-cancel u (down-pos e))
 
-pub same-float : (x y : Float) (u : ℕ) → T (fits binary32 x) → T (fits binary32 y) → T (plus x) → T (plus y) → Is x u → Is y u → x ≡ y
-same-float x y u f g p q a b = sym (ofBits-toBits binary32 x f) ∙ ap (ofBits binary32) (pattern-is x u p a ∙ sym (pattern-is y u q b)) ∙ ofBits-toBits binary32 y g
+pub same-float : (x y : Float) (u : ℕ) → T (fits binary32 x) → T (fits binary32 y) → T (plus x) → T (plus y) → Is x u
+    → Is y u → x ≡ y
+same-float x y u f g p q a b =
+    sym (ofBits-toBits binary32 x f) ∙ ap (ofBits binary32) (pattern-is x u p a ∙ sym (pattern-is y u q b))
+    ∙ ofBits-toBits binary32 y g
 
 -- ---- what is not below zero and not above something finite is finite
-pub of-range : (x y : Float) (v : ℕ) → T (fits binary32 x) → T (le zero32 x) → T (le x y) → Is y v → (u : ℕ) × Unit32 x u
+pub of-range : (x y : Float) (v : ℕ) → T (fits binary32 x) → T (le zero32 x) → T (le x y) → Is y v → (u : ℕ)
+    × Unit32 x u
 unfolding le ofBits
 of-range x y v t h k q = of-float x t (bounded x y h k q) h
   where

@@ -1,4 +1,5 @@
--- The halving of a span of f32 times between 0 and 1, until the computed window repeats: it ends at neighbours, after at most 255 halvings. Assumes nothing.
+-- The halving of a span of f32 times between 0 and 1, until the computed window repeats: it ends at neighbours, after
+-- at most 255 halvings. Assumes nothing.
 use mathlib.Core.Path.{_≡_, refl, sym, subst}
 use mathlib.Core.Logic.{_⊎_, inl, inr}
 use Prim.Native.Nat.{ℕ, _+_, _-_, _*_, _^_, _≤_, _<_}
@@ -48,7 +49,8 @@ high-finite (fin s m e) (inf true) u p a b = a
 high-finite (fin s m e) (inf false) u p a b = b
 high-finite (fin s m e) (fin t n d) u p a b = tt
 
-pub span-of : (lo hi : Float) → T (fits binary32 lo) → T (fits binary32 hi) → T (le zero32 lo) → T (lt lo hi) → T (le hi one32) → (u : ℕ) × (v : ℕ) × Span lo hi u v
+pub span-of : (lo hi : Float) → T (fits binary32 lo) → T (fits binary32 hi) → T (le zero32 lo) → T (lt lo hi)
+    → T (le hi one32) → (u : ℕ) × (v : ℕ) × Span lo hi u v
 span-of lo hi f g z l o =
     let a = of-float lo f (low-finite lo hi z l) z in
     let i = a .1 .is in
@@ -69,7 +71,9 @@ rep-150 : Rep (2 ^ 150)
 rep-150 = (1, 150, lit< tt, refl)
 
 pub rnd-small : (n : ℕ) → n ≤ 2 ^ 150 → rnd n 1 < Top
-rnd-small n h = lt-of-le-of-lt (le-trans (rnd-mono n 1 (2 ^ 150) 1 (pow-pos 0) (pow-pos 0) (mul-le-mul-right 1 h)) (le-of-eq (rnd-fix (2 ^ 150) 1 (pow-pos 0) rep-150))) (lit< tt)
+rnd-small n h =
+    lt-of-le-of-lt (le-trans (rnd-mono n 1 (2 ^ 150) 1 (pow-pos 0) (pow-pos 0) (mul-le-mul-right 1 h))
+    (le-of-eq (rnd-fix (2 ^ 150) 1 (pow-pos 0) rep-150))) (lit< tt)
 
 two-top : (u v l : ℕ) → u < v → v ≤ l → v + u ≤ l * 2
 two-top u v l a b = omega arith
@@ -78,8 +82,10 @@ pub mid-at : (lo hi : Float) (u v : ℕ) → Span lo hi u v → Unit32 (midpoint
 mid-at lo hi u v s =
     let b = mid-between u v (s .low .rep) (s .high .rep) (le-of-lt (s .order)) in
     let t : mid (u + v) < Top = lt-of-le-of-lt (b .1) (s .high .under) in
-    let a : Is (add binary32 hi lo) (rnd (v + u) 1) = add-is hi lo v u (s .high .is) (s .low .is) (rnd-small (v + u) (two-top u v L (s .order) (s .top))) in
-    let a' : Is (add binary32 hi lo) (rnd (u + v) 1) = subst (λ (x : ℕ). Is (add binary32 hi lo) (rnd x 1)) (add-comm v u) a in
+    let a : Is (add binary32 hi lo) (rnd (v + u) 1) =
+    add-is hi lo v u (s .high .is) (s .low .is) (rnd-small (v + u) (two-top u v L (s .order) (s .top))) in
+    let a' : Is (add binary32 hi lo) (rnd (u + v) 1) =
+    subst (λ (x : ℕ). Is (add binary32 hi lo) (rnd x 1)) (add-comm v u) a in
     record { is = half-is (add binary32 hi lo) (rnd (u + v) 1) a' t; rep = rnd-rep (rnd (u + v) 1) 2; under = t }
 
 pub window-at : (lo hi : Float) (u v : ℕ) → Is lo u → Is hi v → u ≤ v → v ≤ L → Is (window lo hi) (rnd (v - u) 1)
@@ -107,7 +113,8 @@ pub record Step (lo' hi' : Float) (u v u' v' : ℕ) : Type 0 where
   pub to : v' ≤ v
   pub shrinks : (r : ℕ) → Rep r → u < r → r < v → (v' - u') * 3 ≤ (v - u) * 2
 
-pub step-at : (lo hi lo' hi' : Float) (u v : ℕ) → Span lo hi u v → Split lo hi lo' hi' → (u' : ℕ) × (v' : ℕ) × Step lo' hi' u v u' v'
+pub step-at : (lo hi lo' hi' : Float) (u v : ℕ) → Span lo hi u v → Split lo hi lo' hi' → (u' : ℕ) × (v' : ℕ)
+    × Step lo' hi' u v u' v'
 step-at lo hi lo' hi' u v s h = go h
   where
     b : (u ≤ mid (u + v)) × (mid (u + v) ≤ v)
@@ -143,7 +150,8 @@ step-at lo hi lo' hi' u v s h = go h
     )
 
 -- where the computed window repeats, nothing lies between
-pub neighbours : (lo hi lo' hi' : Float) (u v : ℕ) → Span lo hi u v → Split lo hi lo' hi' → T (eq (window lo' hi') (window lo hi)) → (w : Float) → T (fits binary32 w) → T (lt lo' w) → T (lt w hi') → ⊥
+pub neighbours : (lo hi lo' hi' : Float) (u v : ℕ) → Span lo hi u v → Split lo hi lo' hi'
+    → T (eq (window lo' hi') (window lo hi)) → (w : Float) → T (fits binary32 w) → T (lt lo' w) → T (lt w hi') → ⊥
 neighbours lo hi lo' hi' u v s h e w f a b =
     let t = step-at lo hi lo' hi' u v s h in
     let u' = t .0 in
