@@ -3,6 +3,7 @@ pub mod Rounding
 pub mod Units
 pub mod Sums
 pub mod Products
+pub mod Plus
 pub mod Middle
 pub mod Patterns
 pub mod NoNan

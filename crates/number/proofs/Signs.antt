@@ -16,7 +16,7 @@ use lib.Ieee.Positive.{positive}
 use lib.Ieee.Scale.{finite}
 use Rattle.number.specs.Number.{zero32}
 use Rattle.number.proofs.Units.{plus}
-use Rattle.number.proofs.Halvings.{round-plus}
+use Rattle.number.proofs.Plus.{round-plus}
 use Rattle.number.proofs.Within.{Within, round-within, or-l, or-r, both}
 
 -- ---- the sign plus

@@ -1,106 +1,21 @@
 -- The sum, the difference and the half of f32 values that are not below zero, in units of 2 ^ -149: each is the exact
 -- one, rounded by `rnd`. Assumes nothing.
+pub mod Rounded
+pub use Rounded.*
 use mathlib.Core.Path.{_≡_, refl, sym, ap, _∙_, subst}
-use mathlib.Core.Logic.{inl, inr}
 use Prim.Native.Nat.{ℕ, _+_, _-_, _*_, _≤_, _<_}
-use native.Mathlib.Nat.{le-trans, le-of-eq, not-le-of-lt, eq-or-lt-of-le, zero-mul, mul-one, one-mul, add-mul}
-use native.Mathlib.Nat.{mul-assoc, mul-comm, mul-pos, mul-le-mul-right, le-of-mul-le-mul-right}
+use native.Mathlib.Nat.{le-trans, le-of-eq, zero-mul, one-mul, add-mul, mul-assoc, mul-comm, mul-pos}
+use native.Mathlib.Nat.{mul-le-mul-right, le-of-mul-le-mul-right}
 use native.Mathlib.Omega.{arith}
-use mathlib.Core.Bool.{Bool, true, false, not, cond, true≢false, false≢true}
+use mathlib.Core.Bool.{Bool, true, false, not}
 use lib.IntN.{ℤ}
-use lib.Dec.{T, ltb, ltb→lt, lt→ltb, lit<}
+use lib.Dec.{lit<}
 use lib.Pow.{pow-pos}
 use lib.Ieee.{Float, fin, binary32, up, down, round, sum, add, sub, mul, ofBits}
-use lib.Ieee.Fits.{up-pos, down-pos, round-is}
-use lib.Ieee.Exact.{HasValue, units-val}
-use lib.Ieee.Order.{drop, kept}
+use lib.Ieee.Fits.{up-pos, down-pos}
 use Rattle.number.specs.Number.{half32}
 use Rattle.number.proofs.Rounding.{rnd, rnd-same, rnd-fix}
 use Rattle.number.proofs.Units.{L, Top, Is, size-is, left, right, no-size, none-of}
-
--- ---- `round`, of either sign
-pub round-at : (s : Bool) (a c : ℕ) → rnd (a * L) c < Top → HasValue (round binary32 s a c) s (rnd (a * L) c) L
-round-at s a c h =
-    subst (λ (z : Float). HasValue z s (rnd (a * L) c) L) (sym (round-is binary32 s a c))
-    (units-val binary32 s (kept 24 (a * L) c) (drop 24 (a * L) c) h)
-
-pub to-is : (x : Float) (w : ℕ) → HasValue x false w L → Is x w
-to-is (fin false m e) w h = h .1
-to-is (fin true m e) w h = absurd (true≢false (h .0))
-
-pub to-is-minus : (x : Float) (w : ℕ) → w ≡ 0 → HasValue x true w L → Is x w
-to-is-minus (fin false m e) w z h = absurd (false≢true (h .0))
-to-is-minus (fin true m e) w z h =
-    (none-of m (up e) L (up-pos e) (pow-pos 149) (h .1 ∙ ap (λ (x : ℕ). x * down e) z ∙ zero-mul (down e)), z)
-
--- num / den is w units
-pub round-units : (num den w : ℕ) → 0 < den → num * L ≡ w * den → rnd (num * L) den ≡ rnd w 1
-round-units num den w D e = rnd-same (num * L) den w 1 D (pow-pos 0) (mul-one (num * L) ∙ e)
-
-at : (num den w : ℕ) → 0 < den → num * L ≡ w * den → rnd w 1 < Top → Is (round binary32 false num den) (rnd w 1)
-at num den w D e h =
-    let k = round-units num den w D e in
-    subst (λ (z : ℕ). Is (round binary32 false num den) z) k
-    (to-is (round binary32 false num den) (rnd (num * L) den)
-    (round-at false num den (subst (λ (z : ℕ). z < Top) (sym k) h)))
-
-rnd-zero : rnd 0 1 ≡ 0
-rnd-zero = rnd-fix 0 1 (pow-pos 0) (0, 0, lit< tt, refl)
-
-at-minus : (num den w : ℕ) → 0 < den → num * L ≡ w * den → w ≡ 0 → Is (round binary32 true num den) (rnd w 1)
-at-minus num den w D e z =
-    let k = round-units num den w D e in
-    let n : rnd w 1 ≡ 0 = ap (λ (x : ℕ). rnd x 1) z ∙ rnd-zero in
-    subst (λ (y : ℕ). Is (round binary32 true num den) y) k
-    (to-is-minus (round binary32 true num den) (rnd (num * L) den) (k ∙ n)
-    (round-at true num den (subst (λ (y : ℕ). y < Top) (sym (k ∙ n)) (pow-pos 277))))
-
--- ---- the branches of `sum`
-pub sum-ff : (a b c : ℕ) → sum binary32 false a false b c ≡ round binary32 false (a + b) c
-unfolding sum
-sum-ff a b c = refl
-
-sum-tt : (a b c : ℕ) → sum binary32 true a true b c ≡ round binary32 true (a + b) c
-unfolding sum
-sum-tt a b c = refl
-
-pub sum-ft : (a b c : ℕ) → b ≤ a → sum binary32 false a true b c ≡ round binary32 false (a - b) c
-unfolding sum
-sum-ft a b c h = go (ltb a b) (ltb→lt a b)
-  where
-    go : (t : Bool) → (T t → a < b)
-        → cond t (round binary32 true (b - a) c) (round binary32 false (a - b) c) ≡ round binary32 false (a - b) c
-    go true k = absurd (not-le-of-lt (k tt) h)
-    go false k = refl
-
-sum-tf : (a b c : ℕ) → a ≤ b → sum binary32 true a false b c ≡ round binary32 false (b - a) c
-unfolding sum
-sum-tf a b c h = go (ltb a b) (ltb b a) (ltb→lt b a) (lt→ltb a b)
-  where
-    swap : (a b : ℕ) → a ≡ b → a - b ≡ b - a
-    swap a b e = omega arith
-
-    go : (t s : Bool) → (T s → b < a) → (a < b → T t)
-        → cond t (round binary32 false (b - a) c) (round binary32 s (a - b) c) ≡ round binary32 false (b - a) c
-    go true s k l = refl
-    go false true k l = absurd (not-le-of-lt (k tt) h)
-    go false false k l =
-        elim (eq-or-lt-of-le h) [
-          | inl e ↦ ap (λ (x : ℕ). round binary32 false x c) (swap a b e)
-          | inr n ↦ absurd (l n)
-        ]
-
-pub add-opens : (s : Bool) (m : ℕ) (e : ℤ) (t : Bool) (n : ℕ) (d : ℤ)
-    → add binary32 (fin s m e) (fin t n d) ≡ sum binary32 s (m * up e * down d) t (n * up d * down e)
-    (down e * down d)
-unfolding add
-add-opens s m e t n d = refl
-
-sub-opens : (s : Bool) (m : ℕ) (e : ℤ) (t : Bool) (n : ℕ) (d : ℤ)
-    → sub binary32 (fin s m e) (fin t n d) ≡ sum binary32 s (m * up e * down d) (not t) (n * up d * down e)
-    (down e * down d)
-unfolding sub
-sub-opens s m e t n d = refl
 
 -- ---- the sum
 no-take : (a b : ℕ) → b ≡ 0 → a - b ≡ a + b
@@ -137,20 +52,20 @@ add-is (fin s m e) (fin t n d) u v p q h =
         → B ≡ n * up d * down e → 0 < C → (A + B) * L ≡ (u + v) * C → Is (sum binary32 s A t B C) (rnd (u + v) 1)
     go false false p q A B C a b K k =
         put (sum binary32 false A false B C) (round binary32 false (A + B) C) (sum-ff A B C)
-        (at (A + B) C (u + v) K k h)
+        (rounded (A + B) C (u + v) K k h)
     go false true p q A B C a b K k =
         let z : B ≡ 0 = b ∙ no-size n (up d) (down e) (q .0) in
         put (sum binary32 false A true B C) (round binary32 false (A + B) C)
         (sum-ft A B C (none-le A B z) ∙ ap (λ (x : ℕ). round binary32 false x C) (no-take A B z))
-        (at (A + B) C (u + v) K k h)
+        (rounded (A + B) C (u + v) K k h)
     go true false p q A B C a b K k =
         let z : A ≡ 0 = a ∙ no-size m (up e) (down d) (p .0) in
         put (sum binary32 true A false B C) (round binary32 false (A + B) C)
         (sum-tf A B C (none-le B A z) ∙ ap (λ (x : ℕ). round binary32 false x C) (no-take' A B z))
-        (at (A + B) C (u + v) K k h)
+        (rounded (A + B) C (u + v) K k h)
     go true true p q A B C a b K k =
         put (sum binary32 true A true B C) (round binary32 true (A + B) C) (sum-tt A B C)
-        (at-minus (A + B) C (u + v) K k (both (p .1) (q .1)))
+        (rounded-minus (A + B) C (u + v) K k (both (p .1) (q .1)))
 
 -- ---- the difference u - v for v ≤ u
 pub sub-is : (x y : Float) (u v : ℕ) → Is x u → Is y v → v ≤ u → rnd (u - v) 1 < Top
@@ -209,20 +124,20 @@ sub-is (fin s m e) (fin t n d) u v p q o h =
         → Is (sum binary32 s A (not t) B C) (rnd (u - v) 1)
     go false false p q A B C a b K i j =
         put (sum binary32 false A true B C) (round binary32 false (A - B) C)
-        (sum-ft A B C (order A B C L (pow-pos 149) i j)) (at (A - B) C (u - v) K (difference A B C i j) h)
+        (sum-ft A B C (order A B C L (pow-pos 149) i j)) (rounded (A - B) C (u - v) K (difference A B C i j) h)
     go false true p q A B C a b K i j =
         put (sum binary32 false A false B C) (round binary32 false (A + B) C) (sum-ff A B C)
-        (at (A + B) C (u - v) K (whole A B C L (b ∙ no-size n (up d) (down e) (q .0)) (q .1) i) h)
+        (rounded (A + B) C (u - v) K (whole A B C L (b ∙ no-size n (up d) (down e) (q .0)) (q .1) i) h)
     go true false p q A B C a b K i j =
         let z : v ≡ 0 = none' u v (p .1) o in
         put (sum binary32 true A true B C) (round binary32 true (A + B) C) (sum-tt A B C)
-        (at-minus (A + B) C (u - v) K (whole A B C L (b ∙ no-size n (up d) (down e) (back-to n d q z)) z i)
+        (rounded-minus (A + B) C (u - v) K (whole A B C L (b ∙ no-size n (up d) (down e) (back-to n d q z)) z i)
         (none u v (p .1)))
     go true true p q A B C a b K i j =
         let z : A ≡ 0 = a ∙ no-size m (up e) (down d) (p .0) in
         put (sum binary32 true A false B C) (round binary32 false (A + B) C)
         (sum-tf A B C (none-le B A z) ∙ ap (λ (x : ℕ). round binary32 false x C) (no-take' A B z))
-        (at (A + B) C (u - v) K (whole A B C L (b ∙ no-size n (up d) (down e) (q .0)) (q .1) i) h)
+        (rounded (A + B) C (u - v) K (whole A B C L (b ∙ no-size n (up d) (down e) (q .0)) (q .1) i) h)
 
 -- ---- the half
 pub half-opens : (t : Bool) (n : ℕ) (d : ℤ)
