@@ -1,4 +1,5 @@
 -- The laws of f32 that the other crates cite.
+pub mod Numbers
 pub mod Rounding
 pub mod Units
 pub mod Sums

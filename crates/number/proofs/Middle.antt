@@ -20,7 +20,7 @@ mid s = rnd (rnd s 1) 2
 
 -- M is a multiple of 2 ^ k and half of s to within a half of 2 ^ k; and where k is above 0, s is so large that 2 ^ k
 -- is the step of the numbers about half of s
-abbrev pub Mid : ℕ → ℕ → Type 0
+abbrev Mid : ℕ → ℕ → Type 0
 Mid s M =
     (k : ℕ) × (q : ℕ) × (M ≡ q * 2 ^ k) × (M * 2 ≤ s + 2 ^ k) × (s ≤ M * 2 + 2 ^ k) × ((k ≡ 0) ⊎ (2 ^ (24 + k) ≤ s))
 
@@ -90,7 +90,7 @@ mid-large s k e =
     down : (m c r w p : ℕ) → m ≡ c → r ≡ c * 2 → w ≡ p * 2 → s * 2 ≤ r * 2 + w → s ≤ m * 2 + p
     down m c r w p a b d h = omega arith
 
-pub mid-is : (s : ℕ) → Mid s (mid s)
+mid-is : (s : ℕ) → Mid s (mid s)
 mid-is s = go (drop 24 s 1) refl
   where
     go : (k : ℕ) → drop 24 s 1 ≡ k → Mid s (mid s)

@@ -4,7 +4,7 @@ use mathlib.Core.Path.{_≡_, refl, sym, ap, _∙_, subst}
 use Prim.Native.Nat.{ℕ, suc, _+_, _*_, _^_, _≤_, _<_}
 use native.Mathlib.Nat.{le-trans, le-of-eq, le-of-lt, lt-of-not-le, lt-of-lt-of-le, lt-of-mul-lt-mul-right}
 use native.Mathlib.Nat.{le-of-suc-le-suc, suc-mul, not-le-of-lt, zero-mul, mul-zero, mul-assoc, mul-mul-mul-comm}
-use native.Mathlib.Nat.{mul-pos, mul-le-mul, mul-le-mul-right}
+use native.Mathlib.Nat.{mul-pos, mul-le-mul-right}
 use native.Mathlib.Omega.{arith}
 use mathlib.Core.Bool.{Bool, true, false}
 use lib.IntN.{ℤ}
@@ -12,6 +12,7 @@ use lib.Dec.{T, lit<}
 use lib.Pow.{pow-pos, pow-add}
 use lib.Ieee.{Float, fin, binary32, up, down, round, mul, lt, unlike}
 use lib.Ieee.Fits.{down-pos}
+use Rattle.number.proofs.Numbers.{square-back}
 use Rattle.number.proofs.Rounding.{rnd, Rep, rnd-mono, rnd-same, rnd-fix, rep-grid}
 use Rattle.number.proofs.Units.{L, Top, Is, Unit32, size-is, lt-says}
 use Rattle.number.proofs.Sums.{round-at, to-is, to-is-minus}
@@ -69,18 +70,6 @@ sum-mono u v u' v' h k =
     both : (u v u' v' : ℕ) → u ≤ u' → v ≤ v' → u + v ≤ u' + v'
     both u v u' v' h k = omega arith
 
-pub product-mono : (u v u' v' : ℕ) → u ≤ u' → v ≤ v' → rnd (u * v) L ≤ rnd (u' * v') L
-product-mono u v u' v' h k =
-    rnd-mono (u * v) L (u' * v') L (pow-pos 149) (pow-pos 149) (mul-le-mul-right L (mul-le-mul h k))
-
-pub half-le : (v : ℕ) → Rep v → rnd v 2 ≤ v
-half-le v r =
-    le-trans (rnd-mono v 2 (v * 2) 2 (pow-pos 1) (pow-pos 1) (mul-le-mul-right 2 (more v)))
-    (le-of-eq (rnd-fix v 2 (pow-pos 1) r))
-  where
-    more : (v : ℕ) → v ≤ v * 2
-    more v = omega arith
-
 -- d above the computed square of p is above the exact square
 pub above-square : (p d : Float) (u v : ℕ) → Is p u → Unit32 d v → rnd (u * u) L < Top → T (lt (mul binary32 p p) d)
     → u * u < v * L
@@ -99,20 +88,12 @@ pub record Root (n R : ℕ) : Type 0 where
   pub digits : 2 ^ 23 ≤ q
   pub low : n * 4 ≤ (R * 2 + 2 ^ k) * (R * 2 + 2 ^ k)
 
-sq-le : (a b : ℕ) → a * a ≤ b * b → a ≤ b
-sq-le a b h =
-    le-of-suc-le-suc (lt-of-not-le
-    (λ (g : suc b ≤ a). clash b (b * b) (a * a) (suc b * suc b) h (mul-le-mul g g) (omega arith)))
-  where
-    clash : (b p q r : ℕ) → q ≤ p → r ≤ q → p < r → ⊥
-    clash b p q r x y z = omega arith
-
 -- a value whose square is at most n is at most the root
 pub root-above : (n R w : ℕ) → Root n R → Rep w → w * w ≤ n → w ≤ R
 root-above n R w r p h = le-of-suc-le-suc (lt-of-not-le (λ (g : suc R ≤ w). no g))
   where
     twice : w * 2 ≤ R * 2 + 2 ^ r .k
-    twice = sq-le (w * 2) (R * 2 + 2 ^ r .k) (le-trans (le-of-eq (four w)) (le-trans (mul-le-mul-right 4 h) (r .low)))
+    twice = square-back (w * 2) (R * 2 + 2 ^ r .k) (le-trans (le-of-eq (four w)) (le-trans (mul-le-mul-right 4 h) (r .low)))
       where
         four : (w : ℕ) → w * 2 * (w * 2) ≡ w * w * 4
         four w = omega arith

@@ -11,13 +11,13 @@ use lib.IntN.{pos}
 use lib.Dec.{T, ltb, eqb, ltb→lt, le→leb, eqb→eq}
 use lib.Pow.{pow-add, pow-pos}
 use lib.Ieee.{Float, nan, inf, fin, binary32, up, down, round, add, mul, div, le, unlike, ofBits}
-use lib.Ieee.Fits.{up-pos, down-pos, eq→eqb}
+use lib.Ieee.Fits.{and-i, up-pos, down-pos, eq→eqb}
 use lib.Ieee.Positive.{positive}
 use lib.Ieee.Scale.{finite}
 use Rattle.number.specs.Number.{zero32}
 use Rattle.number.proofs.Units.{plus}
 use Rattle.number.proofs.Plus.{round-plus}
-use Rattle.number.proofs.Within.{Within, round-within, or-l, or-r, both}
+use Rattle.number.proofs.Within.{Within, round-within, or-l, or-r}
 
 -- ---- the sign plus
 pub plus-up : (x : Float) → T (plus x) → T (le zero32 x)
@@ -25,7 +25,7 @@ unfolding le ofBits
 plus-up (inf false) p = tt
 plus-up (fin false m e) p = elim (eq-zero-or-pos (m * up e * 1)) [
   | inl z ↦ or-r (ltb (0 * down e) (m * up e * 1)) (eqb (0 * down e) (m * up e * 1) && true)
-      (both (eqb (0 * down e) (m * up e * 1)) true (eq→eqb (zero-mul (down e) ∙ sym z)) tt)
+      (and-i (eqb (0 * down e) (m * up e * 1)) true (eq→eqb (zero-mul (down e) ∙ sym z)) tt)
   | inr l ↦ or-l (ltb (0 * down e) (m * up e * 1)) (eqb (0 * down e) (m * up e * 1) && true)
       (le→leb (suc (0 * down e)) (m * up e * 1) (subst (λ (x : ℕ). x < m * up e * 1) (sym (zero-mul (down e))) l))
 ]

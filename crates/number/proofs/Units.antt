@@ -30,7 +30,7 @@ pow-le-back : (a l : ℕ) → 2 ^ a ≤ 2 ^ l → a ≤ l
 pow-le-back a l h =
     le-of-suc-le-suc (lt-of-not-le (λ (g : suc l ≤ a). lt-irrefl (2 ^ l) (lt-of-lt-of-le (pow-lt g) h)))
 
-pub shift-is : (m : ℕ) (e : ℤ) → down e ≤ L → m * up e * L ≡ m * 2 ^ shift e * down e
+shift-is : (m : ℕ) (e : ℤ) → down e ≤ L → m * up e * L ≡ m * 2 ^ shift e * down e
 shift-is m (pos a) h =
     mul-assoc m (2 ^ a) L ∙ ap (λ (x : ℕ). m * x) (sym (pow-add 2 a 149)) ∙ sym (mul-one (m * 2 ^ (a + 149)))
 shift-is m (negsuc a) h =
@@ -115,6 +115,10 @@ of-float (fin true m e) t f h =
         under = pow-pos 277;
       },
     )
+
+pub zero-is : Is zero32 0
+unfolding ofBits
+zero-is = refl
 
 -- ---- a float of which the sign is plus is told by its units
 abbrev pub plus : Float → Bool

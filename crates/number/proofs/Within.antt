@@ -7,7 +7,7 @@ use native.Mathlib.Nat.{le-trans, le-of-eq, lt-of-le-of-lt, mul-one, one-mul, mu
 use native.Mathlib.Nat.{mul-mul-mul-comm, mul-pos, mul-le-mul, mul-le-mul-right, le-of-mul-le-mul-right, pow-suc}
 use native.Mathlib.Omega.{arith}
 use mathlib.Core.Bool.{Bool, true, false, not, _&&_, cond, Bool·beq}
-use lib.Dec.{T, ltb, eqb, ltb→lt, eqb→eq, lit<, lit≤}
+use lib.Dec.{T, ltb, eqb, ltb→lt, eqb→eq, lit<}
 use lib.Pow.{pow-add, pow-pos, pow-mono, pow-lt}
 use lib.Ieee.{Float, nan, inf, fin, binary32, up, down, round, units, odd, sum, add, sub, mul, div, neg, lt, isNan}
 use lib.Ieee.{unlike, ofBits}
@@ -16,7 +16,7 @@ use lib.Ieee.Exact.{HasValue}
 use lib.Ieee.Scale.{finite}
 use lib.Ieee.Order.{drop, kept}
 use Rattle.number.specs.Number.{zero32}
-pub use Rattle.number.proofs.Comparing.{or-l, or-r, both, not-lt-le}
+pub use Rattle.number.proofs.Comparing.{or-l, or-r, not-lt-le}
 pub use Rattle.number.proofs.Choice.{clamp-in}
 use Rattle.number.proofs.Rounding.{rnd, Rep, rnd-mono, rnd-fix}
 use Rattle.number.proofs.Units.{L, Top, Is, size-is}
@@ -112,7 +112,7 @@ mul-within a b (fin s m e) (fin t n d) l h k =
     (mul-mul-mul-comm (2 ^ a) (down e) (2 ^ b) (down d)
     ∙ ap (λ (x : ℕ). x * (down e * down d)) (sym (pow-add 2 a b)))))
 
--- ---- a dot product of differences of numbers up to 2 ^ 20 in size
+-- ---- a dot product
 abbrev pub dot : Float → Float → Float → Float → Float → Float → Float
 dot a b c x y z = add binary32 (add binary32 (mul binary32 a x) (mul binary32 b y)) (mul binary32 c z)
 
@@ -135,17 +135,6 @@ dot-within k a b c x y z l A B C X Y Z =
 
     up-one : (n : ℕ) → n ≤ suc n
     up-one n = omega arith
-
-pub differences : (x0 x1 x2 y0 y1 y2 : Float) → Within 20 x0 → Within 20 x1 → Within 20 x2 → Within 20 y0
-    → Within 20 y1 → Within 20 y2
-    → Within 44 (dot (sub binary32 x0 y0) (sub binary32 x1 y1) (sub binary32 x2 y2) (sub binary32 x0 y0)
-    (sub binary32 x1 y1) (sub binary32 x2 y2))
-differences x0 x1 x2 y0 y1 y2 a b c p q r =
-    let d0 = sub-within 20 x0 y0 (lit≤ tt) a p in
-    let d1 = sub-within 20 x1 y1 (lit≤ tt) b q in
-    let d2 = sub-within 20 x2 y2 (lit≤ tt) c r in
-    dot-within 21 (sub binary32 x0 y0) (sub binary32 x1 y1) (sub binary32 x2 y2) (sub binary32 x0 y0)
-    (sub binary32 x1 y1) (sub binary32 x2 y2) (lit≤ tt) d0 d1 d2 d0 d1 d2
 
 -- ---- a quotient is no NaN, where the divisor is finite and not zero
 odd-no-nan : (d : ℕ) (s : Bool) (q k l : ℕ) → T (not (isNan (odd d s q k l)))

@@ -17,7 +17,7 @@ use Rattle.number.proofs.Middle.{mid, mid-between}
 use Rattle.number.proofs.Units.{L, Is, plus, lt-is, eq-is, same-float}
 use Rattle.number.proofs.Plus.{mid-plus}
 use Rattle.number.proofs.Neighbours.{next-bits}
-use Rattle.number.proofs.Window.{Span, Split, Step, step-at, mid-at, window-at, T-of}
+use Rattle.number.proofs.Window.{Span, Split, Step, step-at, mid-at, window-at}
 
 -- what holds before the halving n + 1
 pub record Inv (p : Float → Bool) (n : ℕ) (lo hi : Float) : Type 0 where
@@ -100,7 +100,7 @@ module _ (p : Float → Bool) (n : ℕ) (lo hi : Float) (i : Inv p n lo hi) wher
 
   pub new-lt : T (lt (nextLower p lo hi) (nextUpper p lo hi))
   new-lt =
-      T-of (sym (lt-is (nextLower p lo hi) (nextUpper p lo hi) (step .0) (step .1) (step .2 .low .is)
+      subst T (sym (lt-is (nextLower p lo hi) (nextUpper p lo hi) (step .0) (step .1) (step .2 .low .is)
       (step .2 .high .is))) (lt→ltb (step .0) (step .1) new-order)
 
   pub new-bits : ((w : Float) → T (fits binary32 w) → T (lt (nextLower p lo hi) w) → T (lt w (nextUpper p lo hi)) → ⊥)
@@ -118,7 +118,7 @@ module _ (p : Float → Bool) (n : ℕ) (lo hi : Float) (i : Inv p n lo hi) wher
       let r = rnd (i .v - i .u) 1 in
       subst (λ (x : Float). T (eq (window x hi') (window lo hi))) (sym a)
       (subst (λ (x : Float). T (eq (window lo x) (window lo hi))) (sym b)
-      (T-of (sym (eq-is (window lo hi) (window lo hi) r r w w)) (eqb-refl r)))
+      (subst T (sym (eq-is (window lo hi) (window lo hi) r r w w)) (eqb-refl r)))
 
   at-lower : mid (i .u + i .v) ≡ i .u → T (repeats p lo hi)
   at-lower e =
