@@ -16,7 +16,7 @@ use Rattle.number.proofs.Neighbours.{after}
 use Rattle.number.proofs.NextUp.{next-of}
 use Rattle.number.proofs.Window.{span-of, neighbours, high-finite}
 
--- ---- the whole
+-- ---- what holds of the end
 pub record Ends (p : Float → Bool) (r : Halved) : Type 0 where
   pub stops : r .stopped ≡ true
   pub bounded : r .count ≤ 255
@@ -70,7 +70,7 @@ ends-from p (suc k) n lo hi e i =
     }
     go false t ih = ih (next p n lo hi i (λ (y : T (repeats p lo hi)). subst T t y))
 
--- ---- for a loop in code
+-- ---- the start, and the end
 pub begin : (p : Float → Bool) (lo hi : Float) → T (fits binary32 lo) → T (fits binary32 hi) → T (plus lo)
     → T (le zero32 lo) → T (lt lo hi) → T (le hi one32) → p lo ≡ true → p hi ≡ false → Inv p 0 lo hi
 begin p lo hi f g h z l o a b =

@@ -26,8 +26,10 @@ grows u v r =
     (rnd-mono (u * 1) 1 (u + v) 1 (pow-pos 0) (pow-pos 0)
     (mul-le-mul-right 1 (le-trans (le-of-eq (mul-one u)) (le-add-right u v))))
 
-later : (t s : Float) (u v : ℕ) → Unit32 t u → Is s v → rnd (u + v) 1 < Top → T (le t (add binary32 t s))
-    × T (le zero32 (add binary32 t s))
+abbrev NotBefore : Float → Float → Type 0
+NotBefore t s = T (le t (add binary32 t s)) × T (le zero32 (add binary32 t s))
+
+later : (t s : Float) (u v : ℕ) → Unit32 t u → Is s v → rnd (u + v) 1 < Top → NotBefore t s
 later t s u v p q h =
     let a : Is (add binary32 t s) (rnd (u + v) 1) = add-is t s u v (p .is) q h in (
       subst T (sym (le-is t (add binary32 t s) u (rnd (u + v) 1) (p .is) a))
@@ -53,8 +55,9 @@ unfolding le
 le-inf (fin s m e) f = tt
 
 -- the sum as one rounding
-add-round : (x y : Float) (u v : ℕ) → T (plus x) → Is x u → Is y v → (num : ℕ) × (den : ℕ) × (0 < den)
-    × (num * L ≡ (u + v) * den) × (add binary32 x y ≡ round binary32 false num den)
+add-round : (x y : Float) (u v : ℕ) → T (plus x) → Is x u → Is y v
+    → (num : ℕ) × (den : ℕ) × (0 < den) × (num * L ≡ (u + v) * den)
+    × (add binary32 x y ≡ round binary32 false num den)
 add-round (fin false m e) (fin t n d) u v k p q =
     let A = m * up e * down d in
     let B = n * up d * down e in
@@ -68,8 +71,7 @@ add-round (fin false m e) (fin t n d) u v k p q =
       A + B,
       C,
       mul-pos (down-pos e) (down-pos d),
-      add-mul A B L ∙ ap (λ (z : ℕ). z + B * L) l
-          ∙ ap (λ (z : ℕ). u * C + z) r ∙ sym (add-mul u v C),
+      add-mul A B L ∙ ap (λ (z : ℕ). z + B * L) l ∙ ap (λ (z : ℕ). u * C + z) r ∙ sym (add-mul u v C),
       add-opens false m e t n d ∙ go t q,
     )
   where
@@ -77,8 +79,8 @@ add-round (fin false m e) (fin t n d) u v k p q =
     no-take a b h = omega arith
 
     go : (t : Bool) → Is (fin t n d) v
-        → sum binary32 false (m * up e * down d) t (n * up d * down e) (down e * down d) ≡ round binary32 false
-        (m * up e * down d + n * up d * down e) (down e * down d)
+        → sum binary32 false (m * up e * down d) t (n * up d * down e) (down e * down d)
+        ≡ round binary32 false (m * up e * down d + n * up d * down e) (down e * down d)
     go false q = sum-ff (m * up e * down d) (n * up d * down e) (down e * down d)
     go true q =
         let z : n * up d * down e ≡ 0 = no-size n (up d) (down e) (q .0) in
@@ -90,8 +92,8 @@ add-over : (x y : Float) (u v : ℕ) → T (plus x) → Is x u → Is y v → To
     → add binary32 x y ≡ inf false
 add-over x y u v k p q h =
     let r = add-round x y u v k p q in
-    r .4 ∙ round-over false (r .0) (r .1) (le-trans h (le-of-eq (sym (round-units (r .0) (r .1) (u + v) (r .2)
-    (r .3)))))
+    r .4
+    ∙ round-over false (r .0) (r .1) (le-trans h (le-of-eq (sym (round-units (r .0) (r .1) (u + v) (r .2) (r .3)))))
 
 inf-up : T (le zero32 (inf false))
 unfolding le ofBits
@@ -117,15 +119,13 @@ later-any t s f k p z g y = go s g y
     a : (u : ℕ) × Unit32 t u
     a = of-float t f k z
 
-    steps : (s : Float) (v : ℕ) → Is s v → Dec (rnd (a .0 + v) 1 < Top) → T (le t (add binary32 t s))
-        × T (le zero32 (add binary32 t s))
+    steps : (s : Float) (v : ℕ) → Is s v → Dec (rnd (a .0 + v) 1 < Top) → NotBefore t s
     steps s v q (yes l) = later t s (a .0) v (a .1) q l
     steps s v q (no n) =
         subst (λ (x : Float). T (le t x) × T (le zero32 x))
         (sym (add-over t s (a .0) v p (a .1 .is) q (le-of-not-lt n))) (le-inf t k, inf-up)
 
-    go : (s : Float) → T (fits binary32 s) → T (le zero32 s) → T (le t (add binary32 t s))
-        × T (le zero32 (add binary32 t s))
+    go : (s : Float) → T (fits binary32 s) → T (le zero32 s) → NotBefore t s
     go nan g y = absurd (no-nan y)
     go (inf true) g y = absurd (no-minus y)
     go (inf false) g y = subst (λ (x : Float). T (le t x) × T (le zero32 x)) (sym (add-inf t k)) (le-inf t k, inf-up)

@@ -14,6 +14,7 @@ pub mod Halvings
 pub mod Comparing
 pub mod Choice
 pub mod Within
+pub mod Quotients
 pub mod Signs
 pub mod Later
 pub mod Sizes

@@ -44,8 +44,7 @@ mid-small s e =
       rnd s 2,
       sym (mul-one (rnd s 2)),
       up (kept 24 s 2) (2 ^ drop 24 s 2) p (n .0),
-      down (kept 24 s 2)
-          (2 ^ drop 24 s 2) p (n .1),
+      down (kept 24 s 2) (2 ^ drop 24 s 2) p (n .1),
       inl refl,
     )
   where
@@ -74,12 +73,15 @@ mid-large s k e =
       m,
       up (mid s) (c * 2 ^ k) (rnd s 1) (2 ^ drop 24 s 1) (2 ^ k) m r t (h .0),
       down (mid s) (c * 2 ^ k) (rnd s 1) (2 ^ drop 24 s 1) (2 ^ k) m r t (h .1),
-      inr (le-trans (le-of-eq (ap (λ (x : ℕ). 2 ^ x) (shift k) ∙ ap (λ (x : ℕ). 2 ^ (23 + x)) (sym e) ∙ sym (mul-one
-          (2 ^ (23 + drop 24 s 1))))) big),
+      inr (le-trans (le-of-eq reach) big),
     )
   where
     shift : (k : ℕ) → 24 + k ≡ 23 + suc k
     shift k = omega arith
+
+    reach : 2 ^ (24 + k) ≡ 2 ^ (23 + drop 24 s 1) * 1
+    reach =
+        ap (λ (x : ℕ). 2 ^ x) (shift k) ∙ ap (λ (x : ℕ). 2 ^ (23 + x)) (sym e) ∙ sym (mul-one (2 ^ (23 + drop 24 s 1)))
 
     some : (k : ℕ) → 0 < suc k
     some k = omega arith

@@ -1,4 +1,4 @@
--- The product in units, and that sums, halves and products grow with what they are made of. And that a value above a
+-- The product and the half in units of 2 ^ -149, that sums grow with what they are made of, and that a value above a
 -- computed square is above the exact one. Assumes nothing.
 use mathlib.Core.Path.{_≡_, refl, sym, ap, _∙_, subst}
 use Prim.Native.Nat.{ℕ, suc, _+_, _*_, _^_, _≤_, _<_}
@@ -10,8 +10,9 @@ use mathlib.Core.Bool.{Bool, true, false}
 use lib.IntN.{ℤ}
 use lib.Dec.{T, lit<}
 use lib.Pow.{pow-pos, pow-add}
-use lib.Ieee.{Float, fin, binary32, up, down, round, mul, lt, unlike}
+use lib.Ieee.{Float, fin, binary32, up, down, round, mul, lt, unlike, ofBits}
 use lib.Ieee.Fits.{down-pos}
+use Rattle.number.specs.Number.{half32}
 use Rattle.number.proofs.Numbers.{square-back}
 use Rattle.number.proofs.Rounding.{rnd, Rep, rnd-mono, rnd-same, rnd-fix, rep-grid}
 use Rattle.number.proofs.Units.{L, Top, Is, Unit32, size-is, lt-says}
@@ -62,6 +63,21 @@ mul-is (fin s m e) (fin t n d) u v p q h =
     go false true p q k = minus k (ap (λ (x : ℕ). u * x) (q .1) ∙ mul-zero u)
     go true false p q k = minus k (ap (λ (x : ℕ). x * v) (p .1) ∙ zero-mul v)
 
+-- ---- the half
+half-units : Is half32 (2 ^ 148)
+unfolding ofBits
+half-units = refl
+
+pub half-is : (y : Float) (v : ℕ) → Is y v → rnd v 2 < Top → Is (mul binary32 half32 y) (rnd v 2)
+half-is y v q h =
+    let e : rnd (2 ^ 148 * v) L ≡ rnd v 2 =
+    rnd-same (2 ^ 148 * v) L v 2 (pow-pos 149) (pow-pos 1) (swap (2 ^ 148) v) in
+    subst (λ (z : ℕ). Is (mul binary32 half32 y) z) e
+    (mul-is half32 y (2 ^ 148) v half-units q (subst (λ (z : ℕ). z < Top) (sym e) h))
+  where
+    swap : (p v : ℕ) → p * v * 2 ≡ v * (p * 2)
+    swap p v = omega arith
+
 -- ---- in order
 pub sum-mono : (u v u' v' : ℕ) → u ≤ u' → v ≤ v' → rnd (u + v) 1 ≤ rnd (u' + v') 1
 sum-mono u v u' v' h k =
@@ -79,8 +95,8 @@ above-square p d u v i j h t =
     not-le-of-lt l (le-trans (le-of-eq (sym (rnd-fix v L (pow-pos 149) (j .rep))))
     (rnd-mono (v * L) L (u * u) L (pow-pos 149) (pow-pos 149) (mul-le-mul-right L k))))
 
--- ---- a correctly rounded root: R is q * 2 ^ k with q of 24 digits, and the exact root of n is within a half of 2 ^
--- k
+-- ---- a correctly rounded root: R is q * 2 ^ k with q of 24 digits, and the exact root of n is at most a half of 2 ^ k
+-- above it
 pub record Root (n R : ℕ) : Type 0 where
   pub k : ℕ
   pub q : ℕ
@@ -93,7 +109,9 @@ pub root-above : (n R w : ℕ) → Root n R → Rep w → w * w ≤ n → w ≤ 
 root-above n R w r p h = le-of-suc-le-suc (lt-of-not-le (λ (g : suc R ≤ w). no g))
   where
     twice : w * 2 ≤ R * 2 + 2 ^ r .k
-    twice = square-back (w * 2) (R * 2 + 2 ^ r .k) (le-trans (le-of-eq (four w)) (le-trans (mul-le-mul-right 4 h) (r .low)))
+    twice =
+        square-back (w * 2) (R * 2 + 2 ^ r .k)
+        (le-trans (le-of-eq (four w)) (le-trans (mul-le-mul-right 4 h) (r .low)))
       where
         four : (w : ℕ) → w * 2 * (w * 2) ≡ w * w * 4
         four w = omega arith

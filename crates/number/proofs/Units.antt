@@ -51,8 +51,8 @@ fit s zero e t =
     record {
       digits = lit< tt;
       deep = flat e (eqb→eq (up e * down e) 1 t);
-      high = subst
-          (λ (x : ℕ). x < 2 ^ 128 * down e) (sym (zero-mul (up e))) (mul-pos (pow-pos 128) (down-pos e));
+      high =
+          subst (λ (x : ℕ). x < 2 ^ 128 * down e) (sym (zero-mul (up e))) (mul-pos (pow-pos 128) (down-pos e));
     }
   where
     one : (a b : ℕ) → 0 < a → a * b ≡ 1 → b ≤ 1
@@ -98,8 +98,7 @@ pub none-of : (m a b : ℕ) → 0 < a → 0 < b → m * a * b ≡ 0 → m ≡ 0
 none-of m a b A B h =
     elim (eq-zero-or-pos m) [
       | inl z ↦ z
-      | inr p ↦ absurd
-          (lt-irrefl 0 (subst (λ (x : ℕ). 0 < x) h (mul-pos (mul-pos p A) B)))
+      | inr p ↦ absurd (lt-irrefl 0 (subst (λ (x : ℕ). 0 < x) h (mul-pos (mul-pos p A) B)))
     ]
 
 pub of-float : (x : Float) → T (fits binary32 x) → T (finite x) → T (le zero32 x) → (u : ℕ) × Unit32 x u
@@ -140,8 +139,8 @@ same-float x y u f g p q a b =
     ∙ ofBits-toBits binary32 y g
 
 -- ---- what is not below zero and not above something finite is finite
-pub of-range : (x y : Float) (v : ℕ) → T (fits binary32 x) → T (le zero32 x) → T (le x y) → Is y v → (u : ℕ)
-    × Unit32 x u
+pub of-range : (x y : Float) (v : ℕ) → T (fits binary32 x) → T (le zero32 x) → T (le x y) → Is y v
+    → (u : ℕ) × Unit32 x u
 unfolding le ofBits
 of-range x y v t h k q = of-float x t (bounded x y h k q) h
   where

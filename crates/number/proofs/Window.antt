@@ -1,5 +1,5 @@
--- The halving of a span of f32 times between 0 and 1, until the computed window repeats: it ends at neighbours, after
--- at most 255 halvings. Assumes nothing.
+-- One halving of a span of f32 times between 0 and 1, in units of 2 ^ -149: the computed midpoint and window, the halved
+-- span, and that nothing lies between the ends where the computed window repeats. Assumes nothing.
 use mathlib.Core.Path.{_≡_, refl, sym, subst}
 use mathlib.Core.Logic.{_⊎_, inl, inr}
 use Prim.Native.Nat.{ℕ, _+_, _-_, _*_, _^_, _≤_, _<_}
@@ -17,7 +17,8 @@ use Rattle.number.proofs.Rounding.{rnd, Rep, rnd-mono, rnd-fix, rnd-rep
 use Rattle.number.proofs.Middle.{mid, mid-between, mid-third, Third}
 use Rattle.number.proofs.Units.{L, Top, Is, Unit32, lt-is, le-is, eq-is, of-float}
 use Rattle.number.proofs.Neighbours.{after, below-finite}
-use Rattle.number.proofs.Sums.{add-is, sub-is, half-is}
+use Rattle.number.proofs.Sums.{add-is, sub-is}
+use Rattle.number.proofs.Products.{half-is}
 
 -- ---- a span, in units
 pub record Span (lo hi : Float) (u v : ℕ) : Type 0 where
@@ -110,8 +111,8 @@ pub record Step (lo' hi' : Float) (u v u' v' : ℕ) : Type 0 where
   pub to : v' ≤ v
   pub shrinks : (r : ℕ) → Rep r → u < r → r < v → (v' - u') * 3 ≤ (v - u) * 2
 
-pub step-at : (lo hi lo' hi' : Float) (u v : ℕ) → Span lo hi u v → Split lo hi lo' hi' → (u' : ℕ) × (v' : ℕ)
-    × Step lo' hi' u v u' v'
+pub step-at : (lo hi lo' hi' : Float) (u v : ℕ) → Span lo hi u v → Split lo hi lo' hi'
+    → (u' : ℕ) × (v' : ℕ) × Step lo' hi' u v u' v'
 step-at lo hi lo' hi' u v s h = go h
   where
     b : (u ≤ mid (u + v)) × (mid (u + v) ≤ v)
