@@ -1,6 +1,5 @@
 -- `smaller`, `larger` and `clamp` (specs/Number.antt) answer one of their arguments, so they keep whatever holds of
--- all
--- of them: a bound, a sign, being no NaN. And the order of the answer. Assumes nothing.
+-- all of them: a bound, a sign, being no NaN. And the order of the answer. Assumes nothing.
 use mathlib.Core.Bool.{Bool, true, false, not, cond}
 use lib.Dec.{T}
 use lib.Ieee.{Float, lt, le, isNan, ofBits}

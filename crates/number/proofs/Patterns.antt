@@ -1,6 +1,5 @@
 -- The bit patterns of f32: what number each stands for, in units of 2 ^ -149, and that the next pattern stands for
--- the
--- next number. 8388608 is the weight of the exponent's field, 2139095040 plus infinity, 2147483648 the sign.
+-- the next number. 8388608 is the weight of the exponent's field, 2139095040 plus infinity, 2147483648 the sign.
 -- Assumes nothing.
 use mathlib.Core.Path.{_≡_, refl, sym, ap, _∙_, subst}
 use mathlib.Core.Logic.{_⊎_, inl, inr}

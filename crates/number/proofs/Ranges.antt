@@ -1,6 +1,5 @@
 -- What the range tests of specs/Range.antt tell: finite, of what size at most, of what size at least. And the size of
--- a
--- constant by its bit pattern. Assumes nothing.
+-- a constant by its bit pattern. Assumes nothing.
 use mathlib.Core.Path.{_≡_, sym, ap, _∙_, subst}
 use mathlib.Core.Logic.{inl, inr}
 use Prim.Native.Nat.{ℕ, suc, _+_, _-_, _*_, _^_, _≤_, _<_}

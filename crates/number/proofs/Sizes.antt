@@ -1,6 +1,5 @@
 -- The absolute value `size` (specs/Number.antt): what `0 - x` is for an x not above zero, and that a size has the
--- sign
--- plus, fits where its number does, and keeps its bound. Assumes nothing.
+-- sign plus, fits where its number does, and keeps its bound. Assumes nothing.
 use mathlib.Core.Path.{_≡_, refl, sym, ap, _∙_, subst}
 use Prim.Native.Nat.{ℕ, zero, suc, _+_, _*_, _^_, _<_}
 use native.Mathlib.Nat.{lt-irrefl, lt-of-lt-of-le, mul-one, mul-pos, zero-add}

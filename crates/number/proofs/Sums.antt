@@ -1,5 +1,5 @@
--- The sum and the difference of f32 values that are not below zero, in units of 2 ^ -149: each is the exact one, rounded
--- by `rnd`. Assumes nothing.
+-- The sum and the difference of f32 values that are not below zero, in units of 2 ^ -149: each is the exact one,
+-- rounded by `rnd`. Assumes nothing.
 pub mod Rounded
 pub use Rounded.*
 use mathlib.Core.Path.{_≡_, refl, sym, ap, _∙_, subst}

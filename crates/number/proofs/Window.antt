@@ -1,5 +1,5 @@
--- One halving of a span of f32 times between 0 and 1, in units of 2 ^ -149: the computed midpoint and window, the halved
--- span, and that nothing lies between the ends where the computed window repeats. Assumes nothing.
+-- One halving of a span of f32 times between 0 and 1, in units of 2 ^ -149: the computed midpoint and window, the
+-- halved span, and that nothing lies between the ends where the computed window repeats. Assumes nothing.
 use mathlib.Core.Path.{_≡_, refl, sym, subst}
 use mathlib.Core.Logic.{_⊎_, inl, inr}
 use Prim.Native.Nat.{ℕ, _+_, _-_, _*_, _^_, _≤_, _<_}

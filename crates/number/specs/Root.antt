@@ -1,6 +1,5 @@
 -- The square root (docs/01-scope.md, "Square root and norm"): the f32 nearest to the exact root, ties to even, found
--- by
--- comparing whole-number squares. Definitions only.
+-- by comparing whole-number squares. Definitions only.
 use Prim.Native.Nat.{ℕ, zero, suc, _+_, _-_, _*_, _/_, _%_, _^_}
 use mathlib.Core.Bool.{Bool, cond, _&&_, _||_}
 use lib.Dec.{ltb, eqb}

@@ -1,6 +1,6 @@
 -- The argument of the square root by its pattern: which patterns are above zero, what the definition answers
--- elsewhere,
--- and the number of 24 digits whose root is taken, for a normal and for a subnormal argument. Assumes nothing.
+-- elsewhere, and the number of 24 digits whose root is taken, for a normal and for a subnormal argument. Assumes
+-- nothing.
 use mathlib.Core.Path.{_≡_, refl, sym, ap, _∙_, subst}
 use mathlib.Core.Logic.{inl, inr}
 use Prim.Native.Nat.{ℕ, suc, _+_, _-_, _*_, _/_, _%_, _^_, _≤_, _<_}

@@ -1,6 +1,5 @@
 -- What a caller wants of the root of a positive finite x: it is an f32 of sign plus, above zero, a whole number of
--- units
--- nearest to the exact root (`Root` of Products), and of half the exponent's bound. Assumes nothing.
+-- units nearest to the exact root (`Root` of Products), and of half the exponent's bound. Assumes nothing.
 use mathlib.Core.Path.{_≡_, refl, sym, ap, _∙_, subst}
 use Prim.Native.Nat.{ℕ, _+_, _*_, _/_, _^_, _≤_, _<_, zero-le}
 use native.Mathlib.Nat.{le-trans, le-of-eq, le-of-lt, lt-of-lt-of-le, lt-of-le-of-lt, not-le-of-lt, mul-comm, mul-one}

@@ -1,6 +1,5 @@
 -- The definition of the square root (specs/Root.antt) taken apart: the middles grow with the patterns, so every
--- pattern
--- up to the nearest is reached and none after it, and the search finds it. Assumes nothing.
+-- pattern up to the nearest is reached and none after it, and the search finds it. Assumes nothing.
 use mathlib.Core.Path.{_≡_, sym, ap, _∙_, subst}
 use mathlib.Core.Logic.{_⊎_, inl, inr}
 use Prim.Native.Nat.{ℕ, zero, suc, _+_, _-_, _*_, _/_, _%_, _^_, _≤_, _<_, zero-le}

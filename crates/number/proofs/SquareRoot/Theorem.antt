@@ -1,7 +1,6 @@
 -- What the definition of the square root comes to, with no word of the search or of the code: of all f32 from zero up
 -- none is nearer to the exact root than the one answered, on a tie its pattern is even, and it is the only one of
--- which
--- this holds. Everything is a comparison of whole-number squares. Assumes nothing.
+-- which this holds. Everything is a comparison of whole-number squares. Assumes nothing.
 use mathlib.Core.Path.{_≡_, sym, ap, _∙_, subst}
 use mathlib.Core.Logic.{_⊎_, inl, inr}
 use Prim.Native.Nat.{ℕ, _+_, _-_, _*_, _%_, _^_, _≤_, _<_}
@@ -26,9 +25,8 @@ use Rattle.number.proofs.SquareRoot.Bits as bits
 use Rattle.number.proofs.SquareRoot.Found.{Found, found, found-root}
 
 -- With r and y for the sizes of two f32, b for the pattern of the first, and n for the square of twice the exact
--- root:
--- the exact root is no nearer to y than to r. Their middle is not past the root on r's side, and where it is the root
--- itself, b is even.
+-- root: the exact root is no nearer to y than to r. Their middle is not past the root on r's side, and where it is
+-- the root itself, b is even.
 pub record NotNearer (n r y b : ℕ) : Type 0 where
   pub below : y < r → (r + y) * (r + y) ≤ n
   pub above : r < y → n ≤ (r + y) * (r + y)

@@ -1,5 +1,5 @@
--- A float that is not below zero as a whole number of units of 2 ^ -149: `Is x u`. Either zero is 0 units. Comparisons of
--- such floats are those of the whole numbers. Assumes nothing.
+-- A float that is not below zero as a whole number of units of 2 ^ -149: `Is x u`. Either zero is 0 units.
+-- Comparisons of such floats are those of the whole numbers. Assumes nothing.
 use mathlib.Core.Path.{_≡_, refl, sym, ap, _∙_, subst}
 use mathlib.Core.Logic.{_⊎_, inl, inr}
 use Prim.Native.Nat.{ℕ, _+_, _*_, _^_, _≤_, _<_}
