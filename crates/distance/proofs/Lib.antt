@@ -1,0 +1,3 @@
+-- The laws of the distance rules.
+pub mod Choice
+pub mod Order
