@@ -1,7 +1,6 @@
 // Candidates for the distance of a pair (docs/01-scope.md, "Our distance rules").
 use super::segment;
 use geometry::vec3;
-
 ghost use mathlib.Core.Path.{_≡_};
 ghost use Rattle.distance.specs.Candidate as Def;
 

@@ -7,7 +7,6 @@ use geometry::edge3;
 use geometry::vec3;
 use number::order;
 use number::range;
-
 ghost use mathlib.Core.Path.{_≡_};
 ghost use lib.Ieee.{lt};
 ghost use Rattle.distance.specs.Candidate.{firstSmallest};
@@ -79,5 +78,8 @@ pub fn edges_above(x0: [f32; 3], x1: [f32; 3], x2: [f32; 3], x3: [f32; 3], thres
     let c1 = candidate::point_segment(1, x1, x2, x3);
     let c2 = candidate::segment_point(2, x0, x1, x2);
     let c3 = candidate::segment_point(3, x0, x1, x3);
-    (threshold < c0.squared) & !(c1.squared <= threshold) & !(c2.squared <= threshold) & !(c3.squared <= threshold)
+    (threshold < c0.squared)
+        & !(c1.squared <= threshold)
+        & !(c2.squared <= threshold)
+        & !(c3.squared <= threshold)
 }

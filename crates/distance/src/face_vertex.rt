@@ -5,7 +5,6 @@ use super::products;
 use super::products::Products;
 use geometry::vec3;
 use number::order;
-
 ghost use mathlib.Core.Path.{_≡_};
 ghost use lib.Ieee.{lt};
 ghost use Rattle.distance.specs.Candidate.{firstSmallest};

@@ -2,7 +2,6 @@
 use super::candidate::Nearest;
 use super::edge_edge;
 use super::face_vertex;
-
 ghost use mathlib.Core.Path.{_≡_};
 ghost use lib.Ieee.{lt};
 ghost use Rattle.distance.specs.Nearest as Def;

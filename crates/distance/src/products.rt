@@ -1,7 +1,6 @@
 // The products of two directions and a gap, from which both interior candidates are found
 // (docs/01-scope.md, "Our distance rules").
 use geometry::vec3;
-
 ghost use mathlib.Core.Path.{_≡_};
 ghost use Rattle.distance.specs.Products as Def;
 

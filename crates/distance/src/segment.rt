@@ -2,7 +2,6 @@
 use geometry::edge3;
 use geometry::vec3;
 use number::order;
-
 ghost use mathlib.Core.Path.{_≡_};
 ghost use Rattle.distance.specs.Segment as Def;
 

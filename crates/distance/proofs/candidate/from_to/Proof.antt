@@ -15,14 +15,13 @@ made : (n : ℕ) (p q w : List Float) (s : Float) → w ≡ minus q p → s ≡ 
 unfolding fromTo
 made n p q w s e f = λ i. record { squared = (f ∙ ap (λ (v : List Float). dot v v) e) i; direction = e i; candidate = n }
 
-sub-requires : tie.Need-sub-requires
-sub-requires c κs = search needs
-
-dot-requires : tie.Need-dot-requires
-dot-requires c κs = search needs
-
 returns : tie.Need-returns
 returns c = made _ _ _ _ _ (c .before .sub .ensures) (c .dot .ensures)
 
 pub from-to-spec : {M : Type 1} → statement M
-from-to-spec = tie.close (tie.spec sub-requires dot-requires returns)
+from-to-spec =
+    tie.close
+    (tie.spec
+    (λ c κs. search needs)
+    (λ c κs. search needs)
+    returns)

@@ -4,15 +4,14 @@ use Rattle.distance.specs.Candidate.{segmentPoint}
 use Rattle.distance.proofs.candidate.segment_point.Statement.{statement}
 use Rattle.distance.proofs.candidate.segment_point.Tie as tie
 
-place-on-requires : tie.Need-place-on-requires
-place-on-requires c κs = search needs
-
-from-to-requires : tie.Need-from-to-requires
-from-to-requires c κs = search needs
-
 returns : tie.Need-returns
 unfolding segmentPoint
 returns c = cc
 
 pub segment-point-spec : {M : Type 1} → statement M
-segment-point-spec = tie.close (tie.spec place-on-requires from-to-requires returns)
+segment-point-spec =
+    tie.close
+    (tie.spec
+    (λ c κs. search needs)
+    (λ c κs. search needs)
+    returns)

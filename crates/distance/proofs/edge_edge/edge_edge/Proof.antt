@@ -1,22 +1,21 @@
 -- `distance::edge_edge::edge_edge` meets its contract: what it answers is the last candidate that is nearer than all
 -- before it, which is the first smallest. Assumes nothing.
 use borrow.Author.Needs.{needs}
-use mathlib.Core.Path.{_≡_, refl, ap, _∙_}
+use mathlib.Core.Path.{_≡_, refl, _∙_}
 use mathlib.Core.Bool.{Bool, true, false, _&&_}
-use mathlib.Core.List.{List, _∷_}
+use mathlib.Core.List.{List}
 use lib.Ieee.{Float, lt}
 use Rattle.number.specs.Number.{smaller}
 use Rattle.distance.specs.declared.candidate.Nearest.{Nearest}
-use Rattle.distance.specs.declared.products.Products.{Products}
-use Rattle.distance.specs.Candidate.{pointSegment, segmentPoint, nearer, nearestFrom, firstSmallest, only}
-use Rattle.distance.specs.EdgeEdge.{edgeProducts, edgesMeet, edgeInterior, edgeEdge}
+use Rattle.distance.specs.Candidate.{nearer, nearestFrom, firstSmallest, only}
+use Rattle.distance.specs.EdgeEdge.{edgeEdge}
 use Rattle.distance.proofs.Choice.{takes, keeps, least, takes-last, keeps-last}
+use Rattle.distance.proofs.EdgeChoice.{Ends, Inner, found}
 use Rattle.distance.proofs.edge_edge.edge_edge.Statement.{statement}
 use Rattle.distance.proofs.edge_edge.edge_edge.Tie as tie
 
--- what the calls found
-record Found (x0 x1 x2 x3 : List Float) : Type 0 where
-  p : Products
+-- what the calls gave
+record Given (x0 x1 x2 x3 : List Float) : Type 0 where
   c0 : Nearest
   c1 : Nearest
   c2 : Nearest
@@ -26,19 +25,14 @@ record Found (x0 x1 x2 x3 : List Float) : Type 0 where
   least1 : Float
   least2 : Float
   least3 : Float
-  is-p : p ≡ edgeProducts x0 x1 x2 x3
-  is-c0 : c0 ≡ pointSegment 0 x0 x2 x3
-  is-c1 : c1 ≡ pointSegment 1 x1 x2 x3
-  is-c2 : c2 ≡ segmentPoint 2 x0 x1 x2
-  is-c3 : c3 ≡ segmentPoint 3 x0 x1 x3
-  is-inner : inner ≡ edgeInterior p x0 x1 x2 x3
-  is-meet : meet ≡ edgesMeet p
+  ends : Ends x0 x1 x2 x3 c0 c1 c2 c3
+  interior : Inner x0 x1 x2 x3 inner meet
   is-least1 : least1 ≡ smaller (c0 .squared) (c1 .squared)
   is-least2 : least2 ≡ smaller least1 (c2 .squared)
   is-least3 : least3 ≡ smaller least2 (c3 .squared)
 
-module _ (x0 x1 x2 x3 : List Float) (f : Found x0 x1 x2 x3) where
-  open Found f using (p, c0, c1, c2, c3, inner, meet, least1, least2, least3)
+module _ (x0 x1 x2 x3 : List Float) (g : Given x0 x1 x2 x3) where
+  open Given g using (c0, c1, c2, c3, inner, meet, least1, least2, least3)
 
   abbrev Answer : Nearest
   Answer = firstSmallest (edgeEdge x0 x1 x2 x3)
@@ -54,23 +48,17 @@ module _ (x0 x1 x2 x3 : List Float) (f : Found x0 x1 x2 x3) where
   n3 = nearer n2 c3
 
   is-n1 : least1 ≡ n1 .squared
-  is-n1 = least c0 c1 (c0 .squared) refl least1 (f .is-least1)
+  is-n1 = least c0 c1 (c0 .squared) refl least1 (g .is-least1)
 
   is-n2 : least2 ≡ n2 .squared
-  is-n2 = least n1 c2 least1 is-n1 least2 (f .is-least2)
+  is-n2 = least n1 c2 least1 is-n1 least2 (g .is-least2)
 
   is-n3 : least3 ≡ n3 .squared
-  is-n3 = least n2 c3 least2 is-n2 least3 (f .is-least3)
+  is-n3 = least n2 c3 least2 is-n2 least3 (g .is-least3)
 
   all : nearestFrom n3 (only meet inner) ≡ Answer
-  unfolding nearestFrom edgeEdge
-  all = λ i. nearestFrom (f .is-c0 i) (f .is-c1 i ∷ f .is-c2 i ∷ f .is-c3 i ∷ only (there i) (last i))
-    where
-      there : meet ≡ edgesMeet (edgeProducts x0 x1 x2 x3)
-      there = f .is-meet ∙ ap edgesMeet (f .is-p)
-
-      last : inner ≡ edgeInterior (edgeProducts x0 x1 x2 x3) x0 x1 x2 x3
-      last = f .is-inner ∙ ap (λ (q : Products). edgeInterior q x0 x1 x2 x3) (f .is-p)
+  unfolding nearestFrom
+  all = found x0 x1 x2 x3 c0 c1 c2 c3 inner meet (g .ends) (g .interior)
 
   inner-answered : meet && lt (inner .squared) least3 ≡ true → inner ≡ Answer
   inner-answered t = takes-last n3 inner least3 is-n3 meet t ∙ all
@@ -99,58 +87,77 @@ module _ (x0 x1 x2 x3 : List Float) (f : Found x0 x1 x2 x3) where
         c0-answered : lt (c1 .squared) (c0 .squared) ≡ false → c0 ≡ Answer
         c0-answered t = keeps c0 c1 (c0 .squared) refl t ∙ n1-answered
 
-abbrev found : (c : tie.After-edges-meet)
-    → Found
+abbrev given : (c : tie.After-edges-meet)
+    → Given
     (c .before .before .before .before .before .before .before .before .before .before .args .x0)
     (c .before .before .before .before .before .before .before .before .before .before .args .x1)
     (c .before .before .before .before .before .before .before .before .before .before .args .x2)
     (c .before .before .before .before .before .before .before .before .before .before .args .x3)
-found c = record {
-  p = c .before .before .before .before .before .before .before .before .before .edge-products .result;
-  c0 = c .before .before .before .before .before .before .before .before .point-segment .result;
-  c1 = c .before .before .before .before .before .before .before .point-segment2 .result;
-  c2 = c .before .before .before .before .before .before .segment-point .result;
-  c3 = c .before .before .before .before .before .segment-point2 .result;
-  inner = c .before .before .before .before .interior .result;
-  meet = c .edges-meet .result;
-  least1 = c .before .before .before .smaller .result;
-  least2 = c .before .before .smaller2 .result;
-  least3 = c .before .smaller3 .result;
-  is-p = c .before .before .before .before .before .before .before .before .before .edge-products .ensures;
-  is-c0 = c .before .before .before .before .before .before .before .before .point-segment .ensures;
-  is-c1 = c .before .before .before .before .before .before .before .point-segment2 .ensures;
-  is-c2 = c .before .before .before .before .before .before .segment-point .ensures;
-  is-c3 = c .before .before .before .before .before .segment-point2 .ensures;
-  is-inner = c .before .before .before .before .interior .ensures;
-  is-meet = c .edges-meet .ensures;
-  is-least1 = c .before .before .before .smaller .ensures;
-  is-least2 = c .before .before .smaller2 .ensures;
-  is-least3 = c .before .smaller3 .ensures;
-}
+given c =
+    let three = c .before in
+    let two = three .before in
+    let one = two .before in
+    let last = one .before in
+    let end3 = last .before in
+    let end2 = end3 .before in
+    let end1 = end2 .before in
+    let end0 = end1 .before in
+    record {
+      c0 = end0 .point-segment .result;
+      c1 = end1 .point-segment2 .result;
+      c2 = end2 .segment-point .result;
+      c3 = end3 .segment-point2 .result;
+      inner = last .interior .result;
+      meet = c .edges-meet .result;
+      least1 = one .smaller .result;
+      least2 = two .smaller2 .result;
+      least3 = three .smaller3 .result;
+      ends = record {
+        is-c0 = end0 .point-segment .ensures;
+        is-c1 = end1 .point-segment2 .ensures;
+        is-c2 = end2 .segment-point .ensures;
+        is-c3 = end3 .segment-point2 .ensures;
+      };
+      interior = record {
+        p = end0 .before .edge-products .result;
+        is-p = end0 .before .edge-products .ensures;
+        is-inner = last .interior .ensures;
+        is-meet = c .edges-meet .ensures;
+      };
+      is-least1 = one .smaller .ensures;
+      is-least2 = two .smaller2 .ensures;
+      is-least3 = three .smaller3 .ensures;
+    }
 
 returns : tie.Need-returns
-returns c = inner-answered _ _ _ _ (found (c .before .before)) (c .if1 .taken)
+returns c = inner-answered _ _ _ _ (given (c .before .before)) (c .if1 .taken)
 
 returns-2 : tie.Need-returns-2
 returns-2 c =
-    c3-answered _ _ _ _ (found (c .before .before .before .before)) (c .before .before .if1 .left) (c .if2 .taken)
+    let else1 = c .before .before in
+    c3-answered _ _ _ _ (given (else1 .before .before)) (else1 .if1 .left) (c .if2 .taken)
 
 returns-3 : tie.Need-returns-3
 returns-3 c =
-    c2-answered _ _ _ _ (found (c .before .before .before .before .before .before))
-    (c .before .before .before .before .if1 .left) (c .before .before .if2 .left) (c .if3 .taken)
+    let else2 = c .before .before in
+    let else1 = else2 .before .before in
+    c2-answered _ _ _ _ (given (else1 .before .before)) (else1 .if1 .left) (else2 .if2 .left) (c .if3 .taken)
 
 returns-4 : tie.Need-returns-4
 returns-4 c =
-    c1-answered _ _ _ _ (found (c .before .before .before .before .before .before .before .before .before))
-    (c .before .before .before .before .before .before .before .if1 .left)
-    (c .before .before .before .before .before .if2 .left) (c .before .before .before .if3 .left) (c .if4 .taken)
+    let else3 = c .before .before .before in
+    let else2 = else3 .before .before in
+    let else1 = else2 .before .before in
+    c1-answered _ _ _ _ (given (else1 .before .before)) (else1 .if1 .left) (else2 .if2 .left) (else3 .if3 .left)
+    (c .if4 .taken)
 
 returns-5 : tie.Need-returns-5
 returns-5 c =
-    c0-answered _ _ _ _ (found (c .before .before .before .before .before .before .before .before .before))
-    (c .before .before .before .before .before .before .before .if1 .left)
-    (c .before .before .before .before .before .if2 .left) (c .before .before .before .if3 .left) (c .if4 .left)
+    let else3 = c .before .before .before in
+    let else2 = else3 .before .before in
+    let else1 = else2 .before .before in
+    c0-answered _ _ _ _ (given (else1 .before .before)) (else1 .if1 .left) (else2 .if2 .left) (else3 .if3 .left)
+    (c .if4 .left)
 
 pub edge-edge-spec : {M : Type 1} → statement M
 edge-edge-spec =

@@ -4,22 +4,16 @@ use Rattle.distance.specs.EdgeEdge.{edgeProducts}
 use Rattle.distance.proofs.edge_edge.edge_products.Statement.{statement}
 use Rattle.distance.proofs.edge_edge.edge_products.Tie as tie
 
-sub-requires : tie.Need-sub-requires
-sub-requires c κs = search needs
-
-sub-requires-2 : tie.Need-sub-requires-2
-sub-requires-2 c κs = search needs
-
-sub-requires-3 : tie.Need-sub-requires-3
-sub-requires-3 c κs = search needs
-
-products-of-requires : tie.Need-products-of-requires
-products-of-requires c κs = search needs
-
 returns : tie.Need-returns
 unfolding edgeProducts
 returns c = cc
 
 pub edge-products-spec : {M : Type 1} → statement M
 edge-products-spec =
-    tie.close (tie.spec sub-requires sub-requires-2 sub-requires-3 products-of-requires returns)
+    tie.close
+    (tie.spec
+    (λ c κs. search needs)
+    (λ c κs. search needs)
+    (λ c κs. search needs)
+    (λ c κs. search needs)
+    returns)

@@ -4,18 +4,15 @@ use Rattle.distance.specs.Segment.{placeOn}
 use Rattle.distance.proofs.segment.place_on.Statement.{statement}
 use Rattle.distance.proofs.segment.place_on.Tie as tie
 
-sub-requires : tie.Need-sub-requires
-sub-requires c κs = search needs
-
-ratio-requires : tie.Need-ratio-requires
-ratio-requires c κs = search needs
-
-lerp-requires : tie.Need-lerp-requires
-lerp-requires c κs = search needs
-
 returns : tie.Need-returns
 unfolding placeOn
 returns c = cc
 
 pub place-on-spec : {M : Type 1} → statement M
-place-on-spec = tie.close (tie.spec sub-requires ratio-requires lerp-requires returns)
+place-on-spec =
+    tie.close
+    (tie.spec
+    (λ c κs. search needs)
+    (λ c κs. search needs)
+    (λ c κs. search needs)
+    returns)

@@ -22,18 +22,6 @@ module _ (p q0 d : List Float) (length : Float) (isLength : length ≡ dot d d) 
       rw (← isLength, t)
       (g ∙ ap (λ (a : Float). clamp (a ⊘ length) zero32 one32) (f ∙ ap (λ (v : List Float). dot v d) e))
 
-dot-requires : tie.Need-dot-requires
-dot-requires c κs = search needs
-
-sub-requires : tie.Need-sub-requires
-sub-requires c κs = search needs
-
-dot-requires-2 : tie.Need-dot-requires-2
-dot-requires-2 c κs = search needs
-
-clamp-requires : tie.Need-clamp-requires
-clamp-requires c κs = search needs
-
 returns : tie.Need-returns
 returns c = no-length _ _ _ _ (c .before .dot .ensures) (c .if1 .taken)
 
@@ -45,4 +33,11 @@ returns-2 c =
 
 pub ratio-spec : {M : Type 1} → statement M
 ratio-spec =
-    tie.close (tie.spec dot-requires sub-requires dot-requires-2 clamp-requires returns returns-2)
+    tie.close
+    (tie.spec
+    (λ c κs. search needs)
+    (λ c κs. search needs)
+    (λ c κs. search needs)
+    (λ c κs. search needs)
+    returns
+    returns-2)
