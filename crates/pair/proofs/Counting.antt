@@ -5,7 +5,7 @@ use native.Mathlib.Omega.{arith}
 use native.Mathlib.Numerals.{add-one}
 use mathlib.Core.Path.{_≡_, refl, sym}
 use mathlib.Core.List.{foldl}
-use Rattle.pair.specs.Norm.{count}
+use Rattle.pair.specs.Count.{count}
 
 one-more : (a n : ℕ) → a < n → n - a ≡ suc (n - (a + 1))
 one-more a n h = omega arith

@@ -1,19 +1,15 @@
 -- The largest distance between the two sides of a split (docs/01-scope.md, "Square root and norm"; ccd3.rs:
 -- `max_relative_norm`). Definitions only.
-use Prim.Native.Nat.{ℕ, zero, suc, _-_}
-use mathlib.Core.List.{List, [], _∷_, foldl}
+use Prim.Native.Nat.{ℕ, _-_}
+use mathlib.Core.List.{List, foldl}
 use lib.Ieee.{Float}
 use Rattle.number.specs.Number.{zero32, larger}
 use Rattle.geometry.specs.Vec3.{col, minus, dot}
+use Rattle.pair.specs.Count.{count}
 
 -- the squared difference of columns i and j
 unfoldable pub gapSquare : List (List Float) → ℕ → ℕ → Float
 gapSquare x i j = dot (minus (col x i) (col x j)) (minus (col x i) (col x j))
-
--- the n numbers from a on
-unfoldable pub count : ℕ → ℕ → List ℕ
-count a zero = []
-count a (suc n) = a ∷ count (suc a) n
 
 -- the largest so far, after column i against the columns js
 abbrev pub against : List (List Float) → List ℕ → Float → ℕ → Float

@@ -5,3 +5,4 @@ pub mod admission;
 pub mod norm;
 pub mod points;
 pub mod record;
+pub mod scaling;

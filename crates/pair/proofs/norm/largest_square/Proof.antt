@@ -8,7 +8,8 @@ use mathlib.Core.List.{foldl}
 use lib.Ieee.{Float}
 use borrow.Author.Needs.{needs}
 use Rattle.number.specs.Number.{larger}
-use Rattle.pair.specs.Norm.{count, against, largestSquare, gapSquare}
+use Rattle.pair.specs.Count.{count}
+use Rattle.pair.specs.Norm.{gapSquare, against, largestSquare}
 use Rattle.pair.proofs.Counting.{fold-turn, fold-done}
 use Rattle.pair.proofs.norm.largest_square.Statement.{statement}
 use Rattle.pair.proofs.norm.largest_square.Tie as tie
