@@ -4,3 +4,4 @@ pub mod Admitted
 pub mod Eighths
 mod Taken
 mod Counting
+mod Into
