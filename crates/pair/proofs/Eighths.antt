@@ -88,4 +88,5 @@ eighths-end (suc k) n f product h e =
     go false above stays rest = rw (eighths-stop (suc k) n f product (stays tt)) (record { few = h .few; last = stays tt })
 
 pub factors-end : (f : Float) → T (fits binary32 f) → T (isFinite f) → Ended 42 (factorsOf f)
+unfolding factorsOf
 factors-end f h k = eighths-end 42 0 f one32 (left-start f h k) (omega arith)

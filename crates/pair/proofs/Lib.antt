@@ -5,3 +5,4 @@ pub mod Eighths
 mod Taken
 mod Counting
 mod Into
+mod Outcomes

@@ -11,6 +11,7 @@ use Rattle.geometry.specs.Vec3.{at, col}
 use Rattle.geometry.specs.Columns.{scaled}
 use Rattle.pair.specs.declared.record.Pair.{Pair}
 use Rattle.pair.specs.declared.scaling.Factors.{Factors}
+use Rattle.pair.specs.declared.scaling.Outcome.{Outcome}
 use Rattle.pair.specs.declared.scaling.Scaling.{Scaling}
 use Rattle.pair.specs.declared.scaling.Scaling.the-variants.{Factor, Refused}
 use Rattle.pair.specs.Count.{count}
@@ -42,10 +43,10 @@ abbrev pub eight32 : Float
 eight32 = ofBits binary32 0x4100_0000
 
 -- f = f32(0.99) / max_entry
-abbrev pub firstFactor : Pair → Float → Float
+unfoldable pub firstFactor : Pair → Float → Float
 firstFactor p t = ofBits binary32 0x3f7d_70a4 ⊘ maxEntry (p .x) (p .dx) t
 
-abbrev pub usable : Float → Bool
+unfoldable pub usable : Float → Bool
 usable f = isFinite f && lt zero32 f
 
 -- after n factors of 8, whose product is given, the last factor is f
@@ -60,10 +61,10 @@ eighths (suc k) n f product = elim (lt eight32 f) [
   | false ↦ ending n f product
 ]
 
-abbrev pub factorsOf : Float → Factors
+unfoldable pub factorsOf : Float → Factors
 factorsOf f = eighths 42 0 f one32
 
-unfoldable pub factorsFor : Pair → Float → Factors
+abbrev pub factorsFor : Pair → Float → Factors
 factorsFor p t = factorsOf (firstFactor p t)
 
 -- every number times 8, n times over
@@ -74,16 +75,24 @@ eightfold (suc n) x = eightfold n (scaled x eight32)
 unfoldable pub scaledBy : Factors → List (List Float) → List (List Float)
 scaledBy by x = scaled (eightfold (by .eights) x) (by .last)
 
-unfoldable pub scaledPair : Pair → Float → Pair
-scaledPair p t = record { x = scaledBy (factorsFor p t) (p .x); dx = scaledBy (factorsFor p t) (p .dx) }
+unfoldable pub scaledWith : Factors → Pair → Pair
+scaledWith by p = record { x = scaledBy by (p .x); dx = scaledBy by (p .dx) }
+
+abbrev pub scaledPair : Pair → Float → Pair
+scaledPair p t = scaledWith (factorsFor p t) p
+
+unfoldable pub finitePair : Pair → Bool
+finitePair p = finitePoints (p .x) && finitePoints (p .dx)
 
 -- 1 and 2; 4, f is no use; 5, some scaled number is not finite
+abbrev pub pairRefusal : Pair → Float → ℕ
+pairRefusal p t = timeRefusal (p .x) (p .dx) t
+
 unfoldable pub scalingRefusal : Pair → Float → ℕ
 scalingRefusal p t =
-    admitted (timeRefusal (p .x) (p .dx) t)
-    (cond (usable (firstFactor p t))
-    (cond (finitePoints (scaledPair p t .x) && finitePoints (scaledPair p t .dx)) 0 5) 4)
-    (timeRefusal (p .x) (p .dx) t)
+    admitted (pairRefusal p t)
+    (cond (usable (firstFactor p t)) (cond (finitePair (scaledPair p t)) 0 5) 4)
+    (pairRefusal p t)
 
 -- what is answered, and what the lent pair holds afterwards
 unfoldable pub scalingOf : Pair → Float → Scaling
@@ -91,3 +100,11 @@ scalingOf p t = admitted (scalingRefusal p t) (Factor (factorsFor p t .product))
 
 unfoldable pub leaves : Pair → Float → Pair
 leaves p t = admitted (scalingRefusal p t) (scaledPair p t) p
+
+-- a refused pair stays as it was
+abbrev pub refusedBy : Pair → ℕ → Outcome
+refusedBy p n = record { taken = false; answer = Refused n; pair = p }
+
+-- both together, and whether the scaled pair is taken
+unfoldable pub outcome : Pair → Float → Outcome
+outcome p t = record { taken = eqb (scalingRefusal p t) 0; answer = scalingOf p t; pair = leaves p t }

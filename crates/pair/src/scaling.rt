@@ -6,6 +6,7 @@ ghost use Rattle.number.specs.Range.{isFinite};
 ghost use Rattle.pair.specs.Scaling as Def;
 use crate::admission;
 use crate::record::Pair;
+use crate::record::{self};
 use geometry::mat3x4_array_of_cols as columns;
 use number::order;
 use number::range;
@@ -21,6 +22,13 @@ pub struct Factors {
     pub eights: u32,
     pub last: f32,
     pub product: f32,
+}
+
+// What the core hands to the function over a lent pair: whether the pair is scaled, the answer, and the pair to store.
+pub struct Outcome {
+    pub taken: bool,
+    pub answer: Scaling,
+    pub pair: Pair,
 }
 
 // The largest so far, after |x| and |x + max_t dx|.
@@ -87,4 +95,80 @@ fn scaled_by(x: [[f32; 3]; 4], by: Factors) -> [[f32; 3]; 4]
         y = z;
     }
     columns::scaled(y, last)
+}
+
+fn admit_pair(p: Pair, max_t: f32) -> u32
+    ensures { λ r. ⌜ r ≡ Def.pairRefusal p «max_t» ⌝ }
+{
+    let x = record::x_of(p);
+    let dx = record::dx_of(p);
+    admission::admit_time(x, dx, max_t)
+}
+
+// The factor that brings the largest entry to 0.99.
+fn first_factor(p: Pair, max_t: f32) -> f32
+    ensures { λ r. ⌜ r ≡ Def.firstFactor p «max_t» ⌝ }
+{
+    let x = record::x_of(p);
+    let dx = record::dx_of(p);
+    0.99 / max_entry(x, dx, max_t)
+}
+
+fn usable(f: f32) -> bool
+    ensures { λ r. ⌜ r ≡ Def.usable f ⌝ }
+{
+    range::is_finite(f) & (0.0 < f)
+}
+
+fn scaled_with(p: Pair, by: Factors) -> Pair
+    ensures { λ r. ⌜ r ≡ Def.scaledWith by p ⌝ }
+{
+    let x = scaled_by(record::x_of(p), by);
+    let dx = scaled_by(record::dx_of(p), by);
+    record::pair_of(x, dx)
+}
+
+fn finite_pair(p: Pair) -> bool
+    ensures { λ r. ⌜ r ≡ Def.finitePair p ⌝ }
+{
+    let x = record::x_of(p);
+    let dx = record::dx_of(p);
+    admission::points_finite(x) & admission::points_finite(dx)
+}
+
+// The pair stays as it was.
+fn refused(p: Pair, number: u32) -> Outcome
+    ensures { λ r. ⌜ r ≡ Def.refusedBy p number ⌝ }
+{
+    let answer = Scaling::Refused(number);
+    Outcome {
+        taken: false,
+        answer: answer,
+        pair: p,
+    }
+}
+
+// Scaling by value: what is answered, and what the pair becomes.
+pub fn scaled_pair(p: Pair, max_t: f32) -> Outcome
+    ensures { λ r. ⌜ r ≡ Def.outcome p «max_t» ⌝ }
+{
+    let refusal = admit_pair(p, max_t);
+    if refusal != 0 {
+        return refused(p, refusal);
+    }
+    let f = first_factor(p, max_t);
+    if !usable(f) {
+        return refused(p, 4);
+    }
+    let by = eighths(f);
+    let scaled = scaled_with(p, by);
+    if !finite_pair(scaled) {
+        return refused(p, 5);
+    }
+    let answer = Scaling::Factor(by.product);
+    Outcome {
+        taken: true,
+        answer: answer,
+        pair: scaled,
+    }
 }

@@ -23,6 +23,7 @@ abbrev μ-loop : tie.MeasureT-loop
 μ-loop f eights₀ last₀ product₀ eights last product = 42 - eights
 
 loop-holds : tie.Need-loop-holds Inv-loop μ-loop
+unfolding factorsOf
 loop-holds c = (left-start (c .args .f) (subst T (sym (c .good .0 .1)) tt) (subst T (sym (c .pre)) tt), refl)
 
 -- in a turn: f is above 8, and a factor of 8 may still be taken
