@@ -13,18 +13,8 @@ use Rattle.number.specs.Range.{isFinite, inLimit, zeroToLimit, zeroToOne, speed
 use Rattle.number.proofs.Within.{Within}
 use Rattle.geometry.specs.Vec3.{at, col}
 use Rattle.pair.specs.declared.record.Limits.{Limits}
-use Rattle.pair.specs.Admission.{
-  refusal,
-  ofThree,
-  ofTwelve,
-  finitePoints,
-  limitPoints,
-  isSplit,
-  rangedLimits,
-  finiteWalk,
-  rangedWalk,
-  walkRefusal,
-}
+use Rattle.pair.specs.Admission.{refusal, ofThree, ofTwelve, finitePoints, limitPoints, isSplit, rangedLimits}
+use Rattle.pair.specs.Admission.{finiteWalk, rangedWalk, walkRefusal}
 use Rattle.pair.proofs.Ranges.{limit-within}
 
 -- ---- the three numbers of a verdict

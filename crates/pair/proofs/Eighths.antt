@@ -85,7 +85,8 @@ eighths-end (suc k) n f product h e =
         → Ended 42 (eighths (suc k) n f product)
     go true above stays rest =
         rw (eighths-turn k n f product (above tt)) (rest (rw (← add-one) (left-next n f h (above tt))))
-    go false above stays rest = rw (eighths-stop (suc k) n f product (stays tt)) (record { few = h .few; last = stays tt })
+    go false above stays rest =
+        rw (eighths-stop (suc k) n f product (stays tt)) (record { few = h .few; last = stays tt })
 
 pub factors-end : (f : Float) → T (fits binary32 f) → T (isFinite f) → Ended 42 (factorsOf f)
 unfolding factorsOf

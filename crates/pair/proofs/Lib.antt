@@ -6,3 +6,4 @@ mod Taken
 mod Counting
 mod Into
 mod Outcomes
+mod Lent

@@ -1,5 +1,5 @@
--- The outcome of a scaling, case by case, over the values that the calls of `pair::scaling::scaled_pair` give: by which
--- test it is refused and by which number, and when it is taken. Assumes nothing.
+-- The outcome of a scaling, case by case, over the values that the calls of `pair::scaling::scaled_pair` give: by
+-- which test it is refused and by which number, and when it is taken. Assumes nothing.
 use Prim.Native.Nat.{ℕ}
 use native.Mathlib.Omega.{arith}
 use mathlib.Core.Path.{_≡_, refl, sym, ap, _∙_}
@@ -10,21 +10,8 @@ use Rattle.pair.specs.declared.record.Pair.{Pair}
 use Rattle.pair.specs.declared.scaling.Factors.{Factors}
 use Rattle.pair.specs.declared.scaling.Outcome.{Outcome}
 use Rattle.pair.specs.declared.scaling.Scaling.the-variants.{Factor, Refused}
-use Rattle.pair.specs.Scaling.{
-  firstFactor,
-  usable,
-  factorsOf,
-  factorsFor,
-  scaledWith,
-  scaledPair,
-  finitePair,
-  pairRefusal,
-  scalingRefusal,
-  scalingOf,
-  leaves,
-  refusedBy,
-  outcome,
-}
+use Rattle.pair.specs.Scaling.{firstFactor, usable, factorsOf, factorsFor, scaledWith, scaledPair, finitePair}
+use Rattle.pair.specs.Scaling.{pairRefusal, scalingRefusal, scalingOf, leaves, refusedBy, outcome}
 
 module _ (p : Pair) (t : Float) where
   refused-by : (n : ℕ) → scalingRefusal p t ≡ n → (n ≡ 0 → ⊥) → refusedBy p n ≡ outcome p t

@@ -1,5 +1,5 @@
--- Scaling a pair (docs/01-scope.md, "Scaling a pair", "Refusal numbers"; ccd3.rs: `normalize_centerized_configuration`).
--- Definitions only.
+-- Scaling a pair (docs/01-scope.md, "Scaling a pair", "Refusal numbers"; ccd3.rs:
+-- `normalize_centerized_configuration`). Definitions only.
 use Prim.Native.Nat.{ℕ, zero, suc}
 use mathlib.Core.Bool.{Bool, true, false, cond, _&&_}
 use mathlib.Core.List.{List, foldl}

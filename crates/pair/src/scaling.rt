@@ -1,5 +1,5 @@
-// Scaling a pair (ccd3.rs: `normalize_centerized_configuration`): the numbers of a pair are multiplied by 8 and once by
-// the rest, until the largest that the motion reaches is 0.99 in size.
+// Scaling a pair (docs/01-scope.md, "Scaling a pair"; ccd3.rs: `normalize_centerized_configuration`): its numbers are
+// multiplied by 8 and at last by a factor of at most 8, so that the largest that the motion reaches is about 0.99.
 ghost use mathlib.Core.Path.{_≡_};
 ghost use mathlib.Core.Bool.{true};
 ghost use Rattle.number.specs.Range.{isFinite};
@@ -171,4 +171,17 @@ pub fn scaled_pair(p: Pair, max_t: f32) -> Outcome
         answer: answer,
         pair: scaled,
     }
+}
+
+// Scales the lent pair and answers the product of the factors; a refused pair stays as it was, bit for bit.
+pub fn normalize_centerized_configuration(pair: &mut Pair, max_t: f32) -> Scaling
+    ensures { λ r. ⌜ (r ≡ Def.scalingOf (now (pair .entry)) «max_t»)
+        × (now (pair .exit) ≡ Def.leaves (now (pair .entry)) «max_t») ⌝ }
+{
+    let p = *pair;
+    let out = scaled_pair(p, max_t);
+    if out.taken {
+        *pair = out.pair;
+    }
+    out.answer
 }

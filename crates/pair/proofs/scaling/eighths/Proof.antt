@@ -1,5 +1,5 @@
--- `pair::scaling::eighths` meets its contract: what the definition makes of what is left is what it makes of f. The loop
--- ends because at most 42 factors of 8 are taken out of a finite number. Assumes nothing.
+-- `pair::scaling::eighths` meets its contract: what the definition makes of what is left is what it makes of f. The
+-- loop ends because at most 42 factors of 8 are taken out of a finite number. Assumes nothing.
 use Prim.Native.Nat.{ℕ, suc, _+_, _-_, _<_}
 use native.Mathlib.Omega.{arith}
 use native.Mathlib.Numerals.{add-one}
@@ -12,8 +12,6 @@ use Rattle.pair.specs.Scaling.{eight32, eighths, factorsOf}
 use Rattle.pair.proofs.Eighths.{Left, left-start, left-more, left-next, eighths-turn, eighths-stop}
 use Rattle.pair.proofs.scaling.eighths.Statement.{statement}
 use Rattle.pair.proofs.scaling.eighths.Tie as tie
-use Rattle.pair.proofs.scaling.eighths.Reads as reads
-use Rattle.pair.proofs.scaling.eighths.Lts as lts
 
 abbrev Inv-loop : tie.InvT-loop
 Inv-loop f eights₀ last₀ product₀ eights last product =
