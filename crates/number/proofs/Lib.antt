@@ -5,6 +5,7 @@ pub mod Sums
 pub mod Products
 pub mod Middle
 pub mod Patterns
+pub mod NoNan
 pub mod Neighbours
 pub mod Window
 pub mod Halvings
@@ -14,3 +15,5 @@ pub mod Later
 pub mod Sizes
 pub mod Finite
 pub mod NextUp
+pub mod SquareRoot
+pub mod Corners

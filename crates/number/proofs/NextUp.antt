@@ -9,20 +9,13 @@ use lib.Dec.{T, ltb, eqb, eqb→eq, ltb→lt, not-T, nltb→le, lit<, lit≤}
 use lib.IntN.{ℤ}
 use lib.Ieee.{Float, nan, inf, fin, binary32, up, down, eq, ne, fits, isNan, nanBits, level, toBits, ofBits}
 use lib.Ieee.Bits.{ofBits-toBits, toBits-lt, nanBits-is, nanBits-above}
-use lib.Ieee.Compare.{differs-from-itself, nan-differs}
+use lib.Ieee.Compare.{differs-from-itself}
 use lib.Ieee.Fits.{and-i, and-l, eq→eqb, up-pos}
 use Rattle.number.specs.Number.{zero32, nextUp}
 use Rattle.number.proofs.Units.{shift, fin-false}
 use Rattle.number.proofs.Within.{or-r}
 use Rattle.number.proofs.Patterns.{no-nan-bits, bits-no-nan}
 use Rattle.number.proofs.Neighbours.{bits-lt}
-
--- ---- the test x != x
-pub nan-left : (x : Float) → ne x x ≡ false → T (not (isNan x))
-unfolding isNan
-nan-left nan h = absurd (true≢false (sym nan-differs ∙ h))
-nan-left (inf s) h = tt
-nan-left (fin s m e) h = tt
 
 pub up-nan : (x : Float) → ne x x ≡ true → x ≡ nextUp x
 unfolding nextUp

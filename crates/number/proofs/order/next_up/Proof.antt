@@ -7,16 +7,8 @@ use borrow.Author.Needs.{needs}
 use mathlib.Core.Bool.{not}
 use lib.Dec.{T}
 use lib.Ieee.{binary32, fits, nanBits, toBits}
-use Rattle.number.proofs.NextUp.{
-  nan-left,
-  next-no-nan,
-  last-no-nan,
-  up-nan,
-  up-top,
-  up-zero,
-  up-plus,
-  up-minus,
-}
+use Rattle.number.proofs.NoNan.{no-nan-ne}
+use Rattle.number.proofs.NextUp.{next-no-nan, last-no-nan, up-nan, up-top, up-zero, up-plus, up-minus}
 use Rattle.number.proofs.order.next_up.Statement.{statement}
 use Rattle.number.proofs.order.next_up.Tie as tie
 
@@ -27,7 +19,7 @@ returns : tie.Need-returns
 returns c = up-nan (c .before .args .x) (c .if1 .taken)
 
 float-to-bits-b : tie.Need-float-to-bits-b
-float-to-bits-b c = nan-left (c .before .args .x) (c .if1 .left)
+float-to-bits-b c = no-nan-ne (c .before .args .x) (c .if1 .left)
 
 returns-2 : tie.Need-returns-2
 returns-2 c = up-top (c .before .before .args .x) (held (c .before .before)) (c .if2 .taken)
@@ -45,7 +37,7 @@ add-result c = search needs
 float-from-bits-result-2 : tie.Need-float-from-bits-result-2
 float-from-bits-result-2 c =
     let s = c .before .before .before .before in
-    next-no-nan (s .args .x) (held s) (nan-left (s .args .x) (c .before .before .before .if1 .left)) (c .before .before .if2 .left) (c .if4 .taken)
+    next-no-nan (s .args .x) (held s) (no-nan-ne (s .args .x) (c .before .before .before .if1 .left)) (c .before .before .if2 .left) (c .if4 .taken)
 
 sub-result : tie.Need-sub-result
 sub-result c = search needs
@@ -53,17 +45,17 @@ sub-result c = search needs
 float-from-bits-result-3 : tie.Need-float-from-bits-result-3
 float-from-bits-result-3 c =
     let s = c .before .before .before .before in
-    last-no-nan (s .args .x) (held s) (nan-left (s .args .x) (c .before .before .before .if1 .left)) (c .before .if3 .left) (c .if4 .left)
+    last-no-nan (s .args .x) (held s) (no-nan-ne (s .args .x) (c .before .before .before .if1 .left)) (c .before .if3 .left) (c .if4 .left)
 
 returns-4 : tie.Need-returns-4
 returns-4 c =
     let s = c .before .before .before .before in
-    up-plus (s .args .x) (nan-left (s .args .x) (c .before .before .before .if1 .left)) (c .before .before .if2 .left) (c .before .if3 .left) (c .if4 .taken)
+    up-plus (s .args .x) (no-nan-ne (s .args .x) (c .before .before .before .if1 .left)) (c .before .before .if2 .left) (c .before .if3 .left) (c .if4 .taken)
 
 returns-5 : tie.Need-returns-5
 returns-5 c =
     let s = c .before .before .before .before in
-    up-minus (s .args .x) (held s) (nan-left (s .args .x) (c .before .before .before .if1 .left)) (c .before .if3 .left) (c .if4 .left)
+    up-minus (s .args .x) (held s) (no-nan-ne (s .args .x) (c .before .before .before .if1 .left)) (c .before .if3 .left) (c .if4 .left)
 
 pub next-up-spec : {M : Type 1} → statement M
 next-up-spec =
