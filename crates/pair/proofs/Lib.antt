@@ -1,6 +1,8 @@
 -- Laws that other crates cite, and helpers of this one. Assumes nothing.
 pub mod Ranges
 pub mod Admitted
+pub mod Norms
+pub mod StayFinite
 pub mod Eighths
 mod Taken
 mod Counting
