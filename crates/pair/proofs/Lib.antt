@@ -4,6 +4,8 @@ pub mod Admitted
 pub mod Norms
 pub mod StayFinite
 pub mod Eighths
+pub mod Exact
+pub mod Scalings
 mod Taken
 mod Counting
 mod Into
