@@ -1,7 +1,8 @@
 -- The product of a scaling's factors is its first factor, bit for bit: eighths of a number above 8 and products by 8 are
 -- exact, so what is taken out comes back. Assumes nothing.
 use Prim.Native.Nat.{ℕ, zero, suc, _+_, _-_, _*_, _^_, _≤_, _<_, zero-le}
-use native.Mathlib.Nat.{mul-one, one-mul, mul-assoc, mul-comm, mul-pos, mul-right-comm, lt-of-lt-of-le, le-of-eq, le-of-lt, not-le-of-lt}
+use native.Mathlib.Nat.{mul-one, one-mul, mul-assoc, mul-comm, mul-pos, mul-right-comm, lt-of-lt-of-le, le-of-eq}
+use native.Mathlib.Nat.{le-of-lt, not-le-of-lt}
 use native.Mathlib.Nat.{le-trans, lt-of-le-of-lt, mul-le-mul-left}
 use native.Mathlib.Omega.{arith}
 use native.Mathlib.Decide.{decLe}
@@ -55,13 +56,12 @@ rep-eighth v (q, j, small, e) h = go (decLe 3 j)
     low j l = omega arith
 
     go : Dec (3 ≤ j) → (w : ℕ) × (v ≡ w * 8) × Rep w
-    go (yes l) =
-        (
-          q * 2 ^ (j - 3),
-          e ∙ ap (λ (n : ℕ). q * 2 ^ n) (back j l) ∙ ap (λ (n : ℕ). q * n) (pow-add 2 (j - 3) 3)
+    go (yes l) = (
+      q * 2 ^ (j - 3),
+      e ∙ ap (λ (n : ℕ). q * 2 ^ n) (back j l) ∙ ap (λ (n : ℕ). q * n) (pow-add 2 (j - 3) 3)
           ∙ sym (mul-assoc q (2 ^ (j - 3)) 8),
-          (q, j - 3, small, refl)
-        )
+      (q, j - 3, small, refl),
+    )
     go (no l) =
         absurd (not-le-of-lt (lt-of-lt-of-le (subst (λ (n : ℕ). n < 2 ^ (24 + j)) (sym e) (shl-lt 24 j small))
         (pow-mono (low j l))) h)
@@ -74,11 +74,11 @@ eighth-is (fin false m e) v w i p h r t =
     let num = m * up e * 1 in
     let den = 8 * down e in
     let same : num * L ≡ w * den =
-        ap (λ (n : ℕ). n * L) (mul-one (m * up e)) ∙ i ∙ ap (λ (n : ℕ). n * down e) h ∙ mul-assoc w 8 (down e)
+    ap (λ (n : ℕ). n * L) (mul-one (m * up e)) ∙ i ∙ ap (λ (n : ℕ). n * down e) h ∙ mul-assoc w 8 (down e)
     in
     let fixed : rnd (num * L) den ≡ w =
-        round-units num den w (mul-pos (pow-pos 3) (down-pos e)) same
-        ∙ ap (λ (n : ℕ). rnd n 1) (sym (mul-one w)) ∙ rnd-fix w 1 (pow-pos 0) r
+    round-units num den w (mul-pos (pow-pos 3) (down-pos e)) same
+    ∙ ap (λ (n : ℕ). rnd n 1) (sym (mul-one w)) ∙ rnd-fix w 1 (pow-pos 0) r
     in
     subst (Is (round binary32 false num den)) fixed
     (to-is (round binary32 false num den) (rnd (num * L) den)
@@ -89,8 +89,8 @@ power-is : (a : ℕ) (p f : Float) (v u : ℕ) → Is p (2 ^ a * L) → Is f v �
     → Is (p ⊗ f) u
 power-is a p f v u i j h r t =
     let fixed : rnd (2 ^ a * L * v) L ≡ u =
-        ap (λ (n : ℕ). rnd n L)
-        (mul-right-comm (2 ^ a) L v ∙ ap (λ (n : ℕ). n * L) (mul-comm (2 ^ a) v ∙ h)) ∙ rnd-fix u L (pow-pos 149) r
+    ap (λ (n : ℕ). rnd n L)
+    (mul-right-comm (2 ^ a) L v ∙ ap (λ (n : ℕ). n * L) (mul-comm (2 ^ a) v ∙ h)) ∙ rnd-fix u L (pow-pos 149) r
     in
     subst (Is (p ⊗ f)) fixed (mul-is p f (2 ^ a * L) v i j (subst (λ (n : ℕ). n < Top) (sym fixed) t))
 
@@ -181,7 +181,7 @@ product-exact f h k a =
     let u = d .0 in
     let some = lt-says zero32 f 0 u zero-is (d .1 .is) a in
     let whole : Whole u 0 f one32 =
-        record { v = u; is = d .1 .is; rep = d .1 .rep; product = one-is; all = mul-one u }
+    record { v = u; is = d .1 .is; rep = d .1 .rep; product = one-is; all = mul-one u }
     in
     let r = product-are u (d .1 .rep) (d .1 .under) 42 0 f one32 refl whole in
     let p = factorsOf f .product in

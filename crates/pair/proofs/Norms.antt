@@ -2,26 +2,31 @@
 -- 2 ^ 22. Assumes nothing.
 use Prim.Native.Nat.{ℕ, suc, _+_, _-_, _*_, _^_, _≤_, _<_}
 use native.Mathlib.Omega.{arith}
-use mathlib.Core.Path.{_≡_, refl, sym, ap, subst}
+use mathlib.Core.Path.{_≡_, refl, sym, ap, _∙_, subst}
 use mathlib.Core.Bool.{Bool, true, false, cond, _&&_}
 use mathlib.Core.List.{List, foldl}
-use lib.Dec.{T, lit≤, lit<}
+use lib.Dec.{T, eqb, lit≤, lit<}
 use lib.Ieee.{Float, binary32, lt, le, fits, ofBits}
 use lib.Ieee.Bits.{ofBits-fits}
 use lib.Ieee.Fits.{add-fits, and-l, and-r}
+use borrow.Author.Tests.{eqb-true}
 use Rattle.number.specs.Number.{_⊖_, zero32, larger}
 use Rattle.number.specs.Range.{isFinite}
 use Rattle.number.specs.Root.{reaches, last, rootOf}
 use Rattle.number.proofs.Units.{plus}
-use Rattle.number.proofs.Within.{Within, sub-within, dot-within, within-more}
+use Rattle.number.proofs.Within.{Within, within-finite, sub-within, dot-within}
+use Rattle.number.proofs.Finite.{is-finite}
 use Rattle.number.proofs.Signs.{plus-up}
 use Rattle.number.proofs.SquareRoot.Theorem.{root-from}
 use Rattle.number.proofs.SquareRoot.Bounds.{root-within}
 use Rattle.geometry.specs.Vec3.{at, col, minus}
+use Rattle.pair.specs.declared.norm.Normed.{Normed}
+use Rattle.pair.specs.declared.norm.Normed.the-variants.{Norm, Refused}
 use Rattle.pair.specs.Count.{count}
-use Rattle.pair.specs.Admission.{limitPoints}
-use Rattle.pair.specs.Norm.{gapSquare, against, largestSquare, normOf}
-use Rattle.pair.proofs.Admitted.{points-within}
+use Rattle.pair.specs.Admission.{limitPoints, splitRefusal}
+use Rattle.pair.specs.Points.{admitted}
+use Rattle.pair.specs.Norm.{gapSquare, against, largestSquare, normOf, normed, refusalOf, valueOf}
+use Rattle.pair.proofs.Admitted.{points-within, split-admits}
 use Rattle.pair.proofs.Counting.{fold-keeps}
 
 -- what two numbers have in common, the larger has
@@ -72,12 +77,30 @@ norm-plus x split = root-plus (largestSquare x split) (square-fits x split)
 pub norm-up : (x : List (List Float)) (split : ℕ) → T (le zero32 (normOf x split))
 norm-up x split = plus-up (normOf x split) (norm-plus x split)
 
+-- an answer's number and its norm, by the number that it was made with
+number : (n : ℕ) (r : Float) → refusalOf (admitted n (Norm r) (Refused n)) ≡ n
+unfolding refusalOf
+number n r = go (eqb n 0) refl
+  where
+    go : (b : Bool) → eqb n 0 ≡ b → refusalOf (cond b (Norm r) (Refused n)) ≡ n
+    go true h = sym (eqb-true n 0 h)
+    go false h = refl
+
+value : (n : ℕ) (r : Float) → (n ≡ 0 → T (isFinite r)) → T (le zero32 r)
+    → let v = valueOf (admitted n (Norm r) (Refused n)) in T (isFinite v) × T (le zero32 v)
+unfolding valueOf isFinite ofBits
+value n r f g = go (eqb n 0) refl
+  where
+    go : (b : Bool) → eqb n 0 ≡ b → let v = valueOf (cond b (Norm r) (Refused n)) in T (isFinite v) × T (le zero32 v)
+    go true h = (f (eqb-true n 0 h), g)
+    go false h = (tt, plus-up zero32 tt)
+
 module _ (x : List (List Float)) (h : T (limitPoints x)) where
   gap-within : (i j : ℕ) → i < 4 → j < 4 → Within 44 (gapSquare x i j)
   unfolding gapSquare
   gap-within i j k l =
       let d : (n : ℕ) → n < 3 → Within 21 (at (col x i) n ⊖ at (col x j) n) =
-          λ n m. sub-within 20 (at (col x i) n) (at (col x j) n) (lit≤ tt) (points-within x h i n k m) (points-within x h j n l m)
+      λ n m. sub-within 20 (at (col x i) n) (at (col x j) n) (lit≤ tt) (points-within x h i n k m) (points-within x h j n l m)
       in
       let d0 = d 0 (lit< tt) in
       let d1 = d 1 (lit< tt) in
@@ -91,3 +114,28 @@ module _ (x : List (List Float)) (h : T (limitPoints x)) where
   pub norm-within : (split : ℕ) → Within 22 (normOf x split)
   unfolding normOf
   norm-within split = root-within 22 (largestSquare x split) (lit≤ tt) (square-fits x split) (square-within split)
+
+-- ---- the public answer: its number is the refusal; its norm, zero where refused, is finite and not below zero
+module _ (x : List (List Float)) (split : ℕ) where
+  pub normed-number : refusalOf (normed x split) ≡ splitRefusal x split
+  unfolding normed
+  normed-number = number (splitRefusal x split) (normOf x split)
+
+  pub normed-real : T (isFinite (valueOf (normed x split))) × T (le zero32 (valueOf (normed x split)))
+  unfolding normed
+  normed-real =
+      value (splitRefusal x split) (normOf x split)
+      (λ e. subst T (sym (is-finite (normOf x split)))
+      (within-finite 22 (normOf x split) (norm-within x (split-admits x split e .0) split))) (norm-up x split)
+
+  -- the clauses of the public call
+  pub with-number : (r : Normed) → r ≡ normed x split
+      → (r ≡ normed x split) × ((refusalOf r ≡ splitRefusal x split)
+      × (T (isFinite (valueOf r)) × T (le zero32 (valueOf r))))
+  with-number r e = (
+    e,
+    (
+      ap refusalOf e ∙ normed-number,
+      subst (λ (r : Normed). T (isFinite (valueOf r)) × T (le zero32 (valueOf r))) (sym e) normed-real,
+    ),
+  )

@@ -11,6 +11,7 @@ use borrow.Author.Tests.{eqb-true, eqb-false}
 use Rattle.number.specs.Number.{zero32}
 use Rattle.number.specs.Range.{isFinite}
 use Rattle.pair.specs.declared.record.Pair.{Pair}
+use Rattle.pair.specs.declared.scaling.Scaling.{Scaling}
 use Rattle.pair.specs.declared.scaling.Scaling.the-variants.{Factor, Refused}
 use Rattle.pair.specs.Points.{admitted}
 use Rattle.pair.specs.Scaling.{refusalOf, factorOf, maxEntry, firstFactor, usable, factorsFor}
@@ -79,3 +80,10 @@ module _ (p : Pair) (t : Float) where
     -- at most 42 factors of 8, and a last one of at most 8
     pub factors-few : Ended 42 (factorsFor p t)
     factors-few = factors-end (firstFactor p t) (first-fits p t) (factor-usable .0)
+
+-- what an answer of a scaling says of the pair that it leaves
+pub finite-there : (p : Pair) (t : Float) (a : Scaling) (q : Pair) → a ≡ scalingOf p t → q ≡ leaves p t
+    → refusalOf a ≡ 0 → T (finitePair q)
+finite-there p t a q e h z =
+    subst (λ (q : Pair). T (finitePair q)) (sym h)
+    (scaling-finite p t (sym (scaling-number p t) ∙ ap refusalOf (sym e) ∙ z))

@@ -1,7 +1,7 @@
--- Every number that an admitted call on points answers or leaves is finite: a place, moved, centred and scaled points,
--- the norm. Assumes nothing.
+-- Every number that an admitted call on points answers or leaves is finite: a place; moved, centred, scaled points.
+-- Assumes nothing.
 use Prim.Native.Nat.{ℕ, _<_}
-use mathlib.Core.Path.{_≡_, refl, sym, subst}
+use mathlib.Core.Path.{_≡_, refl, sym, _∙_, subst}
 use mathlib.Core.Bool.{Bool, _&&_}
 use mathlib.Core.List.{List}
 use lib.Dec.{T, lit≤, lit<}
@@ -14,16 +14,13 @@ use Rattle.number.proofs.Finite.{is-finite}
 use Rattle.geometry.specs.Vec3.{at, col, vec}
 use Rattle.geometry.specs.Edge3.{lerpOf}
 use Rattle.geometry.specs.Columns.{mean, moved, centred, scaled}
-use Rattle.pair.specs.declared.norm.Normed.{Normed}
-use Rattle.pair.specs.declared.norm.Normed.the-variants.{Norm, Refused}
+use Rattle.pair.specs.declared.points.Placed.{Placed}
 use Rattle.pair.specs.Admission.{ofThree, ofTwelve, finitePoints, limitPoints}
-use Rattle.pair.specs.Admission.{pointsRefusal, splitRefusal, factorRefusal, timeRefusal, ratioRefusal}
+use Rattle.pair.specs.Admission.{pointsRefusal, factorRefusal, timeRefusal, ratioRefusal}
 use Rattle.pair.specs.Points.{admitted, placed, movedInto, centredIn, scaledIn}
-use Rattle.pair.specs.Norm.{normOf, normed, valueOf}
 use Rattle.pair.proofs.Ranges.{limit-within, zero-limit-within, zero-one-within}
 use Rattle.pair.proofs.Admitted.{three-each, points-within}
-use Rattle.pair.proofs.Admitted.{points-admits, split-admits, factor-admits, time-admits, ratio-admits}
-use Rattle.pair.proofs.Norms.{norm-within}
+use Rattle.pair.proofs.Admitted.{points-admits, factor-admits, time-admits, ratio-admits}
 use Rattle.pair.proofs.Taken.{taken}
 
 -- a number within a power of two is finite
@@ -48,6 +45,11 @@ module _ (a : ℕ) (f : ℕ → ℕ → Float) where
       and-i (row 0 && row 1 && row 2) (row 3)
       (and-i (row 0 && row 1) (row 2) (and-i (row 0) (row 1) (each 0 (lit< tt)) (each 1 (lit< tt))) (each 2 (lit< tt)))
       (each 3 (lit< tt))
+
+-- the clauses of a call that lends points: a refusal, points, and points that are finite where it is 0
+pub with-finite : (n m : ℕ) (x y : List (List Float)) → n ≡ m → x ≡ y → (m ≡ 0 → T (finitePoints y))
+    → (n ≡ m) × ((x ≡ y) × (n ≡ 0 → T (finitePoints x)))
+with-finite n m x y e h f = (e, (h, λ z. subst (λ (x : List (List Float)). T (finitePoints x)) (sym h) (f (sym e ∙ z))))
 
 -- what an admitted call gives has what its value has
 given : {A : Type 0} (P : A → Type 0) (n : ℕ) (a b : A) → n ≡ 0 → P a → P (admitted n a b)
@@ -96,7 +98,7 @@ mean-within x h j l =
     let two = add-within 20 (c 0) (c 1) (lit≤ tt) (n 0 (lit< tt)) (n 1 (lit< tt)) in
     let three = add-within 21 (c 0 ⊕ c 1) (c 2) (lit≤ tt) two (within-more 20 21 (c 2) (lit≤ tt) (n 2 (lit< tt))) in
     let four =
-        add-within 22 (c 0 ⊕ c 1 ⊕ c 2) (c 3) (lit≤ tt) three (within-more 20 22 (c 3) (lit≤ tt) (n 3 (lit< tt)))
+    add-within 22 (c 0 ⊕ c 1 ⊕ c 2) (c 3) (lit≤ tt) three (within-more 20 22 (c 3) (lit≤ tt) (n 3 (lit< tt)))
     in
     mul-within 23 0 (c 0 ⊕ c 1 ⊕ c 2 ⊕ c 3) (ofBits binary32 0x3e80_0000) (lit≤ tt) four (lit≤ tt)
 
@@ -108,12 +110,3 @@ centred-finite x e =
     (twelve 24 (λ i j. at (col x i) j ⊖ mean x j)
     (λ i j k l. sub-within 23 (at (col x i) j) (mean x j) (lit≤ tt)
     (within-more 20 23 (at (col x i) j) (lit≤ tt) (points-within x h i j k l)) (mean-within x h j l)))
-
--- ---- the norm
-pub norm-finite : (x : List (List Float)) (split : ℕ) → splitRefusal x split ≡ 0
-    → T (isFinite (valueOf (normed x split)))
-unfolding normed valueOf
-norm-finite x split e =
-    given (λ (a : Normed). T (isFinite (valueOf a))) (splitRefusal x split) (Norm (normOf x split))
-    (Refused (splitRefusal x split)) e
-    (within-is 22 (normOf x split) (norm-within x (split-admits x split e .0) split))

@@ -2,6 +2,7 @@
 // multiplied by 8 and at last by a factor of at most 8, so that the largest that the motion reaches is about 0.99.
 ghost use mathlib.Core.Path.{_≡_};
 ghost use mathlib.Core.Bool.{true};
+ghost use lib.Dec.{T};
 ghost use Rattle.number.specs.Range.{isFinite};
 ghost use Rattle.pair.specs.Scaling as Def;
 use crate::admission;
@@ -176,7 +177,8 @@ pub fn scaled_pair(p: Pair, max_t: f32) -> Outcome
 // Scales the lent pair and answers the product of the factors; a refused pair stays as it was, bit for bit.
 pub fn normalize_centerized_configuration(pair: &mut Pair, max_t: f32) -> Scaling
     ensures { λ r. ⌜ (r ≡ Def.scalingOf (now (pair .entry)) «max_t»)
-        × (now (pair .exit) ≡ Def.leaves (now (pair .entry)) «max_t») ⌝ }
+        × (now (pair .exit) ≡ Def.leaves (now (pair .entry)) «max_t»)
+        × (Def.refusalOf r ≡ 0 → T (Def.finitePair (now (pair .exit)))) ⌝ }
 {
     let p = *pair;
     let out = scaled_pair(p, max_t);
