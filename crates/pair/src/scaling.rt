@@ -187,3 +187,21 @@ pub fn normalize_centerized_configuration(pair: &mut Pair, max_t: f32) -> Scalin
     }
     out.answer
 }
+
+// A scaling's answer, and the pair that it left.
+pub struct Scaled {
+    pub answer: Scaling,
+    pub pair: Pair,
+}
+
+// For a caller that holds a pair by value: the pair is lent, and what lies there afterwards is handed back.
+pub fn after_scaling(p: Pair, max_t: f32) -> Scaled
+    ensures { λ r. ⌜ (r .answer ≡ Def.scalingOf p «max_t») × (r .pair ≡ Def.leaves p «max_t») ⌝ }
+{
+    let mut q = p;
+    let answer = normalize_centerized_configuration(&mut q, max_t);
+    Scaled {
+        answer: answer,
+        pair: q,
+    }
+}
