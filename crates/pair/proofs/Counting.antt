@@ -28,4 +28,5 @@ pub fold-keeps : {B : Type 0} (P : B → Type 0) (f : B → ℕ → B) (a n : �
 unfolding count
 fold-keeps P f a zero h b p = p
 fold-keeps P f a (suc n) h b p =
-    fold-keeps P f (suc a) n (λ b k l u. h b k (omega arith) (omega arith)) (f b a) (h b a (omega arith) (omega arith) p)
+    fold-keeps P f (suc a) n (λ b k l u. h b k (omega arith) (omega arith)) (f b a)
+    (h b a (omega arith) (omega arith) p)

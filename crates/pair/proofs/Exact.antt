@@ -1,5 +1,5 @@
--- The product of a scaling's factors is its first factor, bit for bit: eighths of a number above 8 and products by 8 are
--- exact, so what is taken out comes back. Assumes nothing.
+-- The product of a scaling's factors is its first factor, bit for bit: eighths of a number above 8 and products by 8
+-- are exact, so what is taken out comes back. Assumes nothing.
 use Prim.Native.Nat.{ℕ, zero, suc, _+_, _-_, _*_, _^_, _≤_, _<_, zero-le}
 use native.Mathlib.Nat.{mul-one, one-mul, mul-assoc, mul-comm, mul-pos, mul-right-comm, lt-of-lt-of-le, le-of-eq}
 use native.Mathlib.Nat.{le-of-lt, not-le-of-lt}
@@ -21,8 +21,8 @@ use Rattle.number.proofs.Sums.{round-at, to-is, round-units}
 use Rattle.number.proofs.Products.{mul-is}
 use Rattle.number.proofs.Within.{or-l}
 use Rattle.number.proofs.Finite.{is-finite}
-use Rattle.pair.specs.declared.scaling.Factors.{Factors}
-use Rattle.pair.specs.Scaling.{eight32, ending, eighths, factorsOf}
+use Rattle.pair.specs.declared.factors.Factors.{Factors}
+use Rattle.pair.specs.Factors.{eight32, ending, eighths, factorsOf}
 use Rattle.pair.proofs.Eighths.{eighths-turn, eighths-stop}
 
 -- a positive number of units has the sign plus
@@ -110,7 +110,8 @@ next-power n = ap (λ (k : ℕ). 2 ^ k) (three n) ∙ pow-add 2 3 (3 * n)
     three n = omega arith
 
 power-under : (n : ℕ) → n < 42 → 2 ^ (3 * suc n) * L < Top
-power-under n h = subst (λ (k : ℕ). k < Top) (pow-add 2 (3 * suc n) 149) (pow-lt {i = 3 * suc n + 149} {j = 277} (room n h))
+power-under n h =
+    subst (λ (k : ℕ). k < Top) (pow-add 2 (3 * suc n) 149) (pow-lt {i = 3 * suc n + 149} {j = 277} (room n h))
   where
     room : (n : ℕ) → n < 42 → 3 * suc n + 149 < 277
     room n h = omega arith

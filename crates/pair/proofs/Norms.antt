@@ -53,7 +53,8 @@ square-keeps P x split z h =
 square-fits : (x : List (List Float)) (split : ℕ) → T (fits binary32 (largestSquare x split))
 unfolding gapSquare
 square-fits x split =
-    square-keeps (λ (y : Float). T (fits binary32 y)) x split (ofBits-fits binary32 0) (λ i j k l. add-fits binary32 _ _)
+    square-keeps (λ (y : Float). T (fits binary32 y)) x split (ofBits-fits binary32 0)
+    (λ i j k l. add-fits binary32 _ _)
 
 -- what is no positive finite number has the root plus zero
 no-root : (y : Float) → (lt zero32 y && isFinite y) ≡ false → zero32 ≡ rootOf y
@@ -99,8 +100,10 @@ module _ (x : List (List Float)) (h : T (limitPoints x)) where
   gap-within : (i j : ℕ) → i < 4 → j < 4 → Within 44 (gapSquare x i j)
   unfolding gapSquare
   gap-within i j k l =
-      let d : (n : ℕ) → n < 3 → Within 21 (at (col x i) n ⊖ at (col x j) n) =
-      λ n m. sub-within 20 (at (col x i) n) (at (col x j) n) (lit≤ tt) (points-within x h i n k m) (points-within x h j n l m)
+      let d : (n : ℕ) → n < 3 → Within 21 (at (col x i) n ⊖ at (col x j) n) = λ n m.
+      let near = points-within x h i n k m in
+      let far = points-within x h j n l m in
+      sub-within 20 (at (col x i) n) (at (col x j) n) (lit≤ tt) near far
       in
       let d0 = d 0 (lit< tt) in
       let d1 = d 1 (lit< tt) in

@@ -1,5 +1,5 @@
--- What a scaling promises: its answer's number is the refusal; a refused pair stands as it was; a scaled one holds finite
--- numbers alone; and the factor answered is f32(0.99) / max_entry itself, finite and above zero. Assumes nothing.
+-- What a scaling promises: its answer's number is the refusal; a refused pair stands as it was; a scaled one holds
+-- finite numbers alone; the factor answered is f32(0.99) / max_entry itself, finite and above zero. Assumes nothing.
 use Prim.Native.Nat.{ℕ}
 use native.Mathlib.Omega.{arith}
 use mathlib.Core.Path.{_≡_, refl, sym, ap, _∙_, subst}
@@ -14,7 +14,8 @@ use Rattle.pair.specs.declared.record.Pair.{Pair}
 use Rattle.pair.specs.declared.scaling.Scaling.{Scaling}
 use Rattle.pair.specs.declared.scaling.Scaling.the-variants.{Factor, Refused}
 use Rattle.pair.specs.Points.{admitted}
-use Rattle.pair.specs.Scaling.{refusalOf, factorOf, maxEntry, firstFactor, usable, factorsFor}
+use Rattle.pair.specs.Factors.{maxEntry, usable}
+use Rattle.pair.specs.Scaling.{refusalOf, factorOf, firstFactor, factorsFor}
 use Rattle.pair.specs.Scaling.{scaledPair, finitePair, pairRefusal, scalingRefusal, scalingOf, leaves}
 use Rattle.pair.proofs.Eighths.{Ended, factors-end}
 use Rattle.pair.proofs.Exact.{product-exact}

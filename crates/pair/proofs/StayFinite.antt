@@ -49,7 +49,8 @@ module _ (a : ℕ) (f : ℕ → ℕ → Float) where
 -- the clauses of a call that lends points: a refusal, points, and points that are finite where it is 0
 pub with-finite : (n m : ℕ) (x y : List (List Float)) → n ≡ m → x ≡ y → (m ≡ 0 → T (finitePoints y))
     → (n ≡ m) × ((x ≡ y) × (n ≡ 0 → T (finitePoints x)))
-with-finite n m x y e h f = (e, (h, λ z. subst (λ (x : List (List Float)). T (finitePoints x)) (sym h) (f (sym e ∙ z))))
+with-finite n m x y e h f =
+    (e, (h, λ z. subst (λ (x : List (List Float)). T (finitePoints x)) (sym h) (f (sym e ∙ z))))
 
 -- what an admitted call gives has what its value has
 given : {A : Type 0} (P : A → Type 0) (n : ℕ) (a b : A) → n ≡ 0 → P a → P (admitted n a b)

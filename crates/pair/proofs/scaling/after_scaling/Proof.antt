@@ -1,6 +1,6 @@
 -- `pair::scaling::after_scaling` meets its contract: a walk of its MIR, by hand. The pair in a local is lent for a
--- lifetime that is made for the call; once the lifetime is over the local is back, at the pair that the callee's contract
--- says. All that the proof knows of the callee is that it meets its contract. Assumes nothing.
+-- lifetime that is made for the call; once the lifetime is over the local is back, at the pair that the callee's
+-- contract says. All that the proof knows of the callee is that it meets its contract. Assumes nothing.
 use mathlib.Core.Path.{_≡_, refl, ap, subst}
 use Prim.Native.Nat.{ℕ}
 use mathlib.Core.Bool.{true}
@@ -145,17 +145,17 @@ module _ {M : Type 1} (𝓤 : URA M) (H : Heap 𝓤) (A : Atoms 𝓤) (W : Given
       Lent l α δ = MutRef (named 0) (α ∷ []) T.the-row .own (lent l δ) (vptr l 0 ∷ [])
 
       abbrev to-thin : ℕ → ℕ → GName → Thin .Ghost
-      to-thin l α δ =
-          (
-            ((α ∷ [], tt), (fullShare, tt), tt, (lent l δ, (t, tt)), (vptr l 0 ∷ [], (vfloat binary32 t ∷ [], tt))),
-            tt
-          )
+      to-thin l α δ = (
+        ((α ∷ [], tt), (fullShare, tt), tt, (lent l δ, (t, tt)), (vptr l 0 ∷ [], (vfloat binary32 t ∷ [], tt))),
+        tt,
+      )
 
       goes-thin : (l α : ℕ) (δ : GName)
           → ent 𝓤 (sep 𝓤 (A .lft (α ∷ []) fullShare) (sem 𝓤 H A (Lent l α δ))) (Thin .pre (to-thin l α δ))
       goes-thin l α δ =
           qed W (‵ (flft (α ∷ []) fullShare) ∷ ‵ (Lent l α δ) ∷ []) ∵ nothing ! $
-          owned ! f32 (Is f32) (float-makes 𝓤 H A W binary32) t _ (refl, ok) $ fjoin ! $ move ! (2 ∷ 0 ∷ []) $ fjoin ! $
+          owned ! f32 (Is f32) (float-makes 𝓤 H A W binary32) t _ (refl, ok) $ fjoin ! $ move ! (2 ∷ 0 ∷ []) $
+          fjoin ! $
           nothing ! $ move ! (2 ∷ 0 ∷ []) $ join ! $ join ! $ frame ! $ done !
 
       walk : (C : Calls 𝓤 H) (Λ : Loops 𝓤 H) → FmC 𝓤 H (W .laws) C → Triple 𝓤 (C #pair·normalize) Thin
@@ -190,7 +190,8 @@ module _ {M : Type 1} (𝓤 : URA M) (H : Heap 𝓤) (A : Atoms 𝓤) (W : Given
           use1 W
           (some (λ (ws : Pair × (Unit {0} × Unit {0})). ‵ (lasts thin.ended (α ∷ [], tt) (lent l₃ δ, (t, tt)) ws)
           ⊛ raw (fact 𝓤 (Got h t r (ws .0))))) (id⊢ 𝓤 _) $ pick ! (λ ws.
-          split ! $ move ! (1 ∷ []) $ heard ! (Got h t r (ws .0)) (λ e. fsplit ! $ move ! (2 ∷ []) $ split ! $ split ! $
+          split ! $ move ! (1 ∷ []) $ heard ! (Got h t r (ws .0)) (λ e. fsplit ! $ move ! (2 ∷ []) $ split ! $
+          split ! $
           move ! (2 ∷ []) $ facts ! N.the-row (Is N.the-row) (shows 𝓤 H A N.the-row) r (v ∷ []) (λ is.
           -- [the token; true; the last value; …; the lender's part; _6; …; _5; …; _4; …; what frees _3; _2; …]
           land ! (from ! (stop !))
@@ -228,10 +229,9 @@ module _ {M : Type 1} (𝓤 : URA M) (H : Heap 𝓤) (A : Atoms 𝓤) (W : Given
     meets : (𝓣 : Tables 𝓤 H) → Triple 𝓤 (𝓣 .C #pair·normalize) Thin
         → Meets 𝓤 H A f.signature (WpFn 𝓤 H (𝓣 .C) (𝓣 .Λ) code.function) (f.spec 𝓤 H A at-mem run)
     meets 𝓣 known =
-        walk-meets 𝓤 H A f.ended stayed W
-        (
+        walk-meets 𝓤 H A f.ended stayed W (
           goes-none 𝓤 H A W 0 (λ _. T.the-row) yes (λ κs x f. refl),
-          (goes-none 𝓤 H A W 0 (λ _. f32) yes (λ κs x f. refl), tt)
+          (goes-none 𝓤 H A W 0 (λ _. f32) yes (λ κs x f. refl), tt),
         )
         (f.clauses 𝓤 H A at-mem run) (WpFn 𝓤 H (𝓣 .C) (𝓣 .Λ) code.function)
         (WpFn-mono 𝓤 H (W .laws) 𝓣 code.function) (walks (𝓣 .C) (𝓣 .Λ) (fmOf 𝓤 H (W .laws) 𝓣) known)
