@@ -9,16 +9,7 @@ use lib.IntN.{ℤ, pos}
 use lib.Ieee.{Float, nan, inf, fin, binary32, up, down, lt, le, neg, isNan, ofBits}
 use lib.Ieee.Fits.{and-l, and-r}
 use Rattle.number.specs.Number.{zero32, one32}
-use Rattle.number.specs.Range.{
-  limit,
-  minusLimit,
-  leastSpeed,
-  mostSpeed,
-  inLimit,
-  zeroToLimit,
-  zeroToOne,
-  speedRange,
-}
+use Rattle.number.specs.Range.{limit, minusLimit, leastSpeed, mostSpeed, inLimit, zeroToLimit, zeroToOne, speedRange}
 use Rattle.number.proofs.Within.{Within, not-lt-le}
 use Rattle.number.proofs.Signs.{power, minus-power, within-tests}
 

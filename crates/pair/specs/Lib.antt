@@ -1,4 +1,7 @@
 -- What the contracts of `pair` cite. Definitions only.
+pub mod Count
 pub mod Admission
 pub mod Points
 pub mod Norm
+pub mod Factors
+pub mod Scaling

@@ -1,19 +1,23 @@
--- `pair::norm::largest_square` meets its contract. What the columns still to come make of the largest so far is what all
--- of them make of zero, in the loop over either side; the measures are how many are still to come. Assumes nothing.
-use Prim.Native.Nat.{ℕ, _-_, _≤_, _<_}
+-- `pair::norm::largest_square` meets its contract. What the columns still to come make of the largest so far is what
+-- all of them make of zero, in the loop over either side; the measures are how many are still to come.
+-- Assumes nothing.
+use Prim.Native.Nat.{ℕ, _-_, _≤_}
 use native.Mathlib.Omega.{arith}
 use native.Mathlib.Nat.{sub-zero}
-use mathlib.Core.Path.{_≡_, refl, sym, ap, _∙_}
-use mathlib.Core.List.{foldl}
+use mathlib.Core.Path.{_≡_, refl, _∙_}
+use mathlib.Core.List.{List, foldl}
 use lib.Ieee.{Float}
 use borrow.Author.Needs.{needs}
 use Rattle.number.specs.Number.{larger}
-use Rattle.pair.specs.Norm.{count, against, largestSquare, gapSquare}
+use Rattle.pair.specs.Count.{count}
+use Rattle.pair.specs.Norm.{gapSquare, against, largestSquare}
 use Rattle.pair.proofs.Counting.{fold-turn, fold-done}
 use Rattle.pair.proofs.norm.largest_square.Statement.{statement}
 use Rattle.pair.proofs.norm.largest_square.Tie as tie
-use Rattle.pair.proofs.norm.largest_square.Reads as reads
-use Rattle.pair.proofs.norm.largest_square.Lts as lts
+
+-- one column more of the other side, against column i
+abbrev turn : List (List Float) → ℕ → Float → ℕ → Float
+turn x i m j = larger m (gapSquare x i j)
 
 abbrev Inv-loop2 : tie.InvT-loop2
 Inv-loop2 split x largest₀ i j₀ largest j =
@@ -71,8 +75,8 @@ loop2-again c =
     let i = l .before .before .loop .i in
     let m = l .loop2 .largest in
     let j = l .loop2 .j in
-    let h : c .larger .result ≡ larger m (gapSquare x i j) = cc in
-    (omega arith, fold-turn (λ (m : Float) (j : ℕ). larger m (gapSquare x i j)) j 4 m _ (omega arith) h ∙ l .loop2 .inv .1)
+    let h : c .larger .result ≡ turn x i m j = cc in
+    (omega arith, fold-turn (turn x i) j 4 m _ (omega arith) h ∙ l .loop2 .inv .1)
 
 add-i : tie.Need-add-i Inv-loop2 μ-loop2 Inv-loop μ-loop
 add-i c = omega arith
@@ -86,9 +90,10 @@ loop-again c =
     let split = c .before .before .before .before .args .split in
     let x = c .before .before .before .before .args .t1 in
     let m = c .before .loop2 .largest in
-    let done = fold-done (λ (m : Float) (j : ℕ). larger m (gapSquare x (l .i) j)) (c .before .loop2 .j) 4 m (omega arith) in
-    let h : m ≡ against x (count split (4 - split)) (l .largest) (l .i) = done ∙ c .before .loop2 .inv .1 in
-    (omega arith, fold-turn (against x (count split (4 - split))) (l .i) split (l .largest) m (omega arith) h ∙ l .inv .1)
+    let over = against x (count split (4 - split)) in
+    let done = fold-done (turn x (l .i)) (c .before .loop2 .j) 4 m (omega arith) in
+    let h : m ≡ over (l .largest) (l .i) = done ∙ c .before .loop2 .inv .1 in
+    (omega arith, fold-turn over (l .i) split (l .largest) m (omega arith) h ∙ l .inv .1)
 
 returns : tie.Need-returns Inv-loop2 μ-loop2 Inv-loop μ-loop
 returns c = fold-done _ _ _ (c .before .loop .largest) (omega arith) ∙ c .before .loop .inv .1
