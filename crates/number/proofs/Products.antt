@@ -1,12 +1,12 @@
 -- The product and the half in units of 2 ^ -149, that sums grow with what they are made of, and that a value above a
 -- computed square is above the exact one. Assumes nothing.
 use mathlib.Core.Path.{_≡_, refl, sym, ap, _∙_, subst}
+use mathlib.Core.Bool.{Bool, true, false}
 use Prim.Native.Nat.{ℕ, suc, _+_, _*_, _^_, _≤_, _<_}
 use native.Mathlib.Nat.{le-trans, le-of-eq, le-of-lt, lt-of-not-le, lt-of-lt-of-le, lt-of-mul-lt-mul-right}
 use native.Mathlib.Nat.{le-of-suc-le-suc, suc-mul, not-le-of-lt, zero-mul, mul-zero, mul-assoc, mul-mul-mul-comm}
 use native.Mathlib.Nat.{mul-pos, mul-le-mul-right}
 use native.Mathlib.Omega.{arith}
-use mathlib.Core.Bool.{Bool, true, false}
 use lib.IntN.{ℤ}
 use lib.Dec.{T, lit<}
 use lib.Pow.{pow-pos, pow-add}

@@ -3,11 +3,11 @@
 -- nothing.
 use mathlib.Core.Path.{_≡_, refl, sym, ap, _∙_, subst}
 use mathlib.Core.Logic.{inl, inr}
+use mathlib.Core.Bool.{Bool, false, cond, _&&_}
 use Prim.Native.Nat.{ℕ, suc, _+_, _-_, _*_, _/_, _%_, _^_, _≤_, _<_}
 use native.Mathlib.Nat.{le-trans, le-of-eq, le-of-lt, le-refl, lt-of-lt-of-le, lt-of-not-le, lt-irrefl}
 use native.Mathlib.Nat.{eq-zero-or-pos, mul-assoc, mul-one, mul-le-mul-right}
 use native.Mathlib.Omega.{arith}
-use mathlib.Core.Bool.{Bool, false, cond, _&&_}
 use lib.Dec.{T, ltb→lt}
 use lib.IntN.{ℤ}
 use lib.Pow.{pow-add, pow-mono, shl-lt, shl-exact}

@@ -1,10 +1,10 @@
 -- `round` in units of 2 ^ -149, of either sign, and what sums and differences hand to it. Assumes nothing.
 use mathlib.Core.Path.{_≡_, refl, sym, ap, _∙_, subst}
 use mathlib.Core.Logic.{inl, inr}
+use mathlib.Core.Bool.{Bool, true, false, not, cond, true≢false, false≢true}
 use Prim.Native.Nat.{ℕ, _+_, _-_, _*_, _≤_, _<_}
 use native.Mathlib.Nat.{not-le-of-lt, eq-or-lt-of-le, zero-mul, mul-one}
 use native.Mathlib.Omega.{arith}
-use mathlib.Core.Bool.{Bool, true, false, not, cond, true≢false, false≢true}
 use lib.IntN.{ℤ}
 use lib.Dec.{T, ltb, ltb→lt, lt→ltb, lit<}
 use lib.Pow.{pow-pos}
