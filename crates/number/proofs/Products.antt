@@ -95,8 +95,8 @@ above-square p d u v i j h t =
     not-le-of-lt l (le-trans (le-of-eq (sym (rnd-fix v L (pow-pos 149) (j .rep))))
     (rnd-mono (v * L) L (u * u) L (pow-pos 149) (pow-pos 149) (mul-le-mul-right L k))))
 
--- ---- a correctly rounded root: R is q * 2 ^ k with q of 24 digits, and the exact root of n is at most a half of 2 ^ k
--- above it
+-- ---- a correctly rounded root: R is q * 2 ^ k with q of 24 digits, and the exact root of n is above it by at most a
+-- half of 2 ^ k
 pub record Root (n R : ℕ) : Type 0 where
   pub k : ℕ
   pub q : ℕ

@@ -34,7 +34,8 @@ to-is-minus (fin true m e) w z h =
 pub round-units : (num den w : ℕ) → 0 < den → num * L ≡ w * den → rnd (num * L) den ≡ rnd w 1
 round-units num den w D e = rnd-same (num * L) den w 1 D (pow-pos 0) (mul-one (num * L) ∙ e)
 
-pub rounded : (num den w : ℕ) → 0 < den → num * L ≡ w * den → rnd w 1 < Top → Is (round binary32 false num den) (rnd w 1)
+pub rounded : (num den w : ℕ) → 0 < den → num * L ≡ w * den → rnd w 1 < Top
+    → Is (round binary32 false num den) (rnd w 1)
 rounded num den w D e h =
     let k = round-units num den w D e in
     subst (λ (z : ℕ). Is (round binary32 false num den) z) k
@@ -44,7 +45,8 @@ rounded num den w D e h =
 rnd-zero : rnd 0 1 ≡ 0
 rnd-zero = rnd-fix 0 1 (pow-pos 0) (0, 0, lit< tt, refl)
 
-pub rounded-minus : (num den w : ℕ) → 0 < den → num * L ≡ w * den → w ≡ 0 → Is (round binary32 true num den) (rnd w 1)
+pub rounded-minus : (num den w : ℕ) → 0 < den → num * L ≡ w * den → w ≡ 0
+    → Is (round binary32 true num den) (rnd w 1)
 rounded-minus num den w D e z =
     let k = round-units num den w D e in
     let n : rnd w 1 ≡ 0 = ap (λ (x : ℕ). rnd x 1) z ∙ rnd-zero in
