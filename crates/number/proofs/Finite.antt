@@ -1,9 +1,9 @@
 -- The finite f32 values: `isFinite` (specs/Range.antt) is a comparison with the largest of them, either way.
 -- Assumes nothing.
 use mathlib.Core.Path.{_≡_, refl, sym}
+use mathlib.Core.Bool.{true, false}
 use Prim.Native.Nat.{ℕ, _*_, _^_}
 use native.Mathlib.Nat.{le-trans, le-of-eq, le-of-suc-le-suc}
-use mathlib.Core.Bool.{true, false}
 use lib.Dec.{T, lit<}
 use lib.IntN.{ℤ, pos}
 use lib.Ieee.{Float, nan, inf, fin, binary32, neg, le, fits, toBits, ofBits}

@@ -4,9 +4,9 @@ pub mod Turn
 pub use Turn.*
 pub use Rattle.number.proofs.Plus.{round-plus, add-plus, half-plus, mid-plus}
 use mathlib.Core.Path.{_≡_, refl, sym, subst}
+use mathlib.Core.Bool.{Bool, true, false}
 use Prim.Native.Nat.{ℕ, zero, suc, _+_, _-_, _*_, _≤_}
 use native.Mathlib.Omega.{arith}
-use mathlib.Core.Bool.{Bool, true, false}
 use lib.Dec.{T}
 use lib.Ieee.{Float, binary32, lt, le, fits, toBits}
 use Rattle.number.specs.Number.{zero32, one32, nextUp}

@@ -1,14 +1,14 @@
 -- A time that is not below zero, and a step that is not: the computed sum is not below the time, and not below zero.
 -- Where the sum overflows it is the infinity. Assumes nothing.
 use mathlib.Core.Path.{_≡_, refl, sym, ap, _∙_, subst}
+use mathlib.Core.Bool.{Bool, true, false, cond}
 use Prim.Native.Nat.{ℕ, _+_, _-_, _*_, _^_, _≤_, _<_, zero-le}
 use native.Mathlib.Nat.{le-trans, le-of-eq, mul-one, mul-le-mul-right, le-add-right, not-le-of-lt, add-mul, mul-pos}
 use native.Mathlib.Omega.{arith}
-use mathlib.Core.Bool.{Bool, true, false, cond}
+use native.Mathlib.Decide.{decLt}
 use lib.Dec.{T, ltb, le→leb, ltb→lt}
 use lib.Pow.{pow-pos}
 use lib.Ieee.{Float, nan, inf, fin, binary32, up, down, round, units, odd, sum, add, le, fits, ofBits}
-use native.Mathlib.Decide.{decLt}
 use lib.Ieee.Fits.{round-is, down-pos}
 use lib.Ieee.Scale.{finite}
 use lib.Ieee.Order.{drop, kept}

@@ -1,14 +1,14 @@
 -- Where a value is no NaN: by a program's own tests, by a bit pattern, and where it was rounded. Assumes nothing.
 use mathlib.Core.Path.{_≡_, sym, _∙_, subst}
-use Prim.Native.Nat.{ℕ, _%_, _≤_, zero, suc, _*_, _^_}
 use mathlib.Core.Bool.{Bool, true, false, not, _&&_, true≢false, cond}
+use Prim.Native.Nat.{ℕ, _%_, _≤_, zero, suc, _*_, _^_}
 use lib.Dec.{T, ltb}
 use lib.Ieee.{Float, nan, inf, fin, binary32, binary64, ne, lt, le, fits, isNan, ofBits, round, units, odd}
 use lib.Ieee.Bits.{ofBits-fits, nanBits-is}
 use lib.Ieee.Compare.{nan-differs}
 use lib.Ieee.Fits.{and-i, and-l, fits-widens, round-is}
-use Rattle.number.proofs.Patterns.{no-nan-bits}
 use lib.Ieee.Order.{drop, kept}
+use Rattle.number.proofs.Patterns.{no-nan-bits}
 use Rattle.number.proofs.Units.{L}
 
 -- the test x != x

@@ -3,13 +3,13 @@
 -- Assumes nothing.
 use mathlib.Core.Path.{_≡_, refl, sym, ap, _∙_, subst}
 use mathlib.Core.Logic.{_⊎_, inl, inr}
+use mathlib.Core.Bool.{Bool, false, cond, not}
 use Prim.Native.Nat.{ℕ, zero, suc, _+_, _-_, _*_, _/_, _%_, _^_, _≤_, _<_}
 use native.Mathlib.Nat.{le-of-eq, le-of-lt, lt-irrefl, lt-of-lt-of-le, lt-of-not-le, eq-or-lt-of-le, mul-assoc}
 use native.Mathlib.Nat.{add-mul, one-mul, pow-succ'}
 use native.Mathlib.Numerals.{add-one}
 use native.Mathlib.Omega.{arith}
 use native.Mathlib.Decide.{le-ind}
-use mathlib.Core.Bool.{Bool, false, cond, not}
 use lib.Dec.{T, leb, ltb, eqb, leb→le, ltb→lt, nltb→le, eqb→eq, not-T}
 use lib.Pow.{pow-pos}
 use lib.Ieee.{Float, nan, inf, binary32, odd, fits, isNan, ofFields, ofBits, toBits, nanBits}

@@ -1,7 +1,7 @@
 -- Where the sign is plus: what is rounded with it, a sum, a half, a midpoint. Assumes nothing.
 use mathlib.Core.Path.{_≡_, refl, sym, _∙_, subst}
-use Prim.Native.Nat.{ℕ, zero, suc, _+_, _-_, _*_, _^_}
 use mathlib.Core.Bool.{Bool, true, false, cond}
+use Prim.Native.Nat.{ℕ, zero, suc, _+_, _-_, _*_, _^_}
 use lib.Dec.{T, ltb}
 use lib.IntN.{ℤ}
 use lib.Ieee.Order.{drop, kept}

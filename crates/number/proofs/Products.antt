@@ -1,12 +1,12 @@
 -- The product and the half in units of 2 ^ -149, that sums grow with what they are made of, and that a value above a
 -- computed square is above the exact one. Assumes nothing.
 use mathlib.Core.Path.{_≡_, refl, sym, ap, _∙_, subst}
+use mathlib.Core.Bool.{Bool, true, false}
 use Prim.Native.Nat.{ℕ, suc, _+_, _*_, _^_, _≤_, _<_}
 use native.Mathlib.Nat.{le-trans, le-of-eq, le-of-lt, lt-of-not-le, lt-of-lt-of-le, lt-of-mul-lt-mul-right}
 use native.Mathlib.Nat.{le-of-suc-le-suc, suc-mul, not-le-of-lt, zero-mul, mul-zero, mul-assoc, mul-mul-mul-comm}
 use native.Mathlib.Nat.{mul-pos, mul-le-mul-right}
 use native.Mathlib.Omega.{arith}
-use mathlib.Core.Bool.{Bool, true, false}
 use lib.IntN.{ℤ}
 use lib.Dec.{T, lit<}
 use lib.Pow.{pow-pos, pow-add}
@@ -95,8 +95,8 @@ above-square p d u v i j h t =
     not-le-of-lt l (le-trans (le-of-eq (sym (rnd-fix v L (pow-pos 149) (j .rep))))
     (rnd-mono (v * L) L (u * u) L (pow-pos 149) (pow-pos 149) (mul-le-mul-right L k))))
 
--- ---- a correctly rounded root: R is q * 2 ^ k with q of 24 digits, and the exact root of n is at most a half of 2 ^ k
--- above it
+-- ---- a correctly rounded root: R is q * 2 ^ k with q of 24 digits, and the exact root of n is above it by at most a
+-- half of 2 ^ k
 pub record Root (n R : ℕ) : Type 0 where
   pub k : ℕ
   pub q : ℕ

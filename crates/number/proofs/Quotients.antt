@@ -1,18 +1,18 @@
 -- Quotients: no NaN by a divisor above zero, and how large they can be, by a divisor that is not too small or by 8.
 -- Assumes nothing.
 use mathlib.Core.Path.{_≡_, sym, ap, _∙_, subst}
+use mathlib.Core.Bool.{Bool, true, false, not, cond}
+use mathlib.Core.Logic.{inl, inr}
 use Prim.Native.Nat.{ℕ, _+_, _*_, _^_, _≤_, _<_}
 use native.Mathlib.Nat.{le-trans, le-of-eq, mul-one, mul-assoc, mul-comm, mul-pos, mul-le-mul, eq-zero-or-pos}
 use native.Mathlib.Omega.{arith}
-use mathlib.Core.Bool.{Bool, true, false, not, cond}
 use lib.Dec.{T, eqb, ltb→lt, eqb→eq}
 use lib.Pow.{pow-add, pow-pos}
 use lib.Ieee.{Float, nan, inf, fin, binary32, up, down, round, div, lt, isNan, unlike, ofBits}
 use lib.Ieee.Fits.{down-pos, up-pos}
 use lib.Ieee.Scale.{finite}
-use Rattle.number.specs.Number.{zero32}
-use mathlib.Core.Logic.{inl, inr}
 use lib.IntN.{pos}
+use Rattle.number.specs.Number.{zero32}
 use Rattle.number.proofs.Within.{Within, round-within}
 use Rattle.number.proofs.NoNan.{round-no-nan}
 use Rattle.number.proofs.Numbers.{zero-size}

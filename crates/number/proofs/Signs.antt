@@ -4,10 +4,10 @@ pub use Rattle.number.proofs.Ranges.{power, minus-power, le-of-tests, w
 pub use Rattle.number.proofs.Quotients.{AtLeast, div-within, eighth-within}
 use mathlib.Core.Path.{_≡_, sym, _∙_, subst}
 use mathlib.Core.Logic.{inl, inr}
+use mathlib.Core.Bool.{Bool, true, false, _&&_, cond}
 use Prim.Native.Nat.{ℕ, suc, _+_, _*_, _<_}
 use native.Mathlib.Nat.{zero-mul, eq-zero-or-pos}
 use native.Mathlib.Omega.{arith}
-use mathlib.Core.Bool.{Bool, true, false, _&&_, cond}
 use lib.Dec.{T, ltb, eqb, ltb→lt, le→leb, eqb→eq}
 use lib.Ieee.{Float, nan, inf, fin, binary32, up, down, round, add, mul, div, le, ofBits}
 use lib.Ieee.Fits.{and-i, eq→eqb}

@@ -3,10 +3,10 @@
 pub mod Rounded
 pub use Rounded.*
 use mathlib.Core.Path.{_≡_, refl, sym, ap, _∙_, subst}
+use mathlib.Core.Bool.{Bool, true, false, not}
 use Prim.Native.Nat.{ℕ, _+_, _-_, _*_, _≤_, _<_}
 use native.Mathlib.Nat.{le-trans, le-of-eq, zero-mul, add-mul, mul-pos, mul-le-mul-right, le-of-mul-le-mul-right}
 use native.Mathlib.Omega.{arith}
-use mathlib.Core.Bool.{Bool, true, false, not}
 use lib.IntN.{ℤ}
 use lib.Pow.{pow-pos}
 use lib.Ieee.{Float, fin, binary32, up, down, round, sum, add, sub}

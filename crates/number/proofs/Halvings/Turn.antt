@@ -2,10 +2,10 @@
 -- it, and the window is two thirds of what it was, or less, unless it repeats. Assumes nothing.
 use mathlib.Core.Path.{_≡_, refl, sym, ap, _∙_, subst}
 use mathlib.Core.Logic.{inl, inr}
+use mathlib.Core.Bool.{Bool, true, false, cond, true≢false}
 use Prim.Native.Nat.{ℕ, suc, _+_, _-_, _*_, _^_, _≤_, _<_}
 use native.Mathlib.Nat.{le-trans, le-of-eq, le-of-lt, not-le-of-lt, one-mul, mul-le-mul-right, pow-suc}
 use native.Mathlib.Omega.{arith}
-use mathlib.Core.Bool.{Bool, true, false, cond, true≢false}
 use lib.Dec.{T, lt→ltb, eqb-refl, lit<}
 use lib.Arith.{lt-of-le-ne}
 use lib.Ieee.{Float, binary32, add, lt, eq, fits, toBits}

@@ -2,18 +2,19 @@
 -- Comparisons of such floats are those of the whole numbers. Assumes nothing.
 use mathlib.Core.Path.{_≡_, refl, sym, ap, _∙_, subst}
 use mathlib.Core.Logic.{_⊎_, inl, inr}
+use mathlib.Core.Bool.{Bool, true, false, _&&_, _||_}
 use Prim.Native.Nat.{ℕ, _+_, _*_, _^_, _≤_, _<_}
 use native.Mathlib.Nat.{le-of-eq, le-of-lt, lt-of-lt-of-le, lt-of-le-of-lt, eq-or-lt-of-le, mul-assoc, mul-comm}
 use native.Mathlib.Nat.{mul-right-comm, mul-pos, mul-lt-mul-of-pos-right, lt-of-mul-lt-mul-right}
-use native.Mathlib.Nat.{eq-of-mul-eq-mul-right}
+use native.Mathlib.Nat.{eq-of-mul-eq-mul-right, zero-mul}
 use native.Mathlib.Omega.{arith}
-use mathlib.Core.Bool.{Bool, true, false, _&&_, _||_}
 use lib.IntN.{ℤ}
 use lib.Dec.{T, leb, ltb, eqb, leb→le, le→leb, ltb→lt, lt→ltb, eqb→eq}
 use lib.Pow.{pow-pos}
 use lib.Ieee.{Float, nan, inf, fin, up, down, lt, le, eq}
 use lib.Ieee.Scale.{finite}
 use lib.Ieee.Fits.{down-pos, eq→eqb}
+use Rattle.number.proofs.Numbers.{zero-size}
 
 abbrev pub L : ℕ
 L = 2 ^ 149
@@ -69,14 +70,15 @@ module _ (a b de dd l u v : ℕ) (D : 0 < de) (E : 0 < dd) (K : 0 < l) (p : a * 
 pub finite-is : (x : Float) (u : ℕ) → Is x u → T (finite x)
 finite-is (fin s m e) u i = tt
 
+-- no significand is no units
+pub none-is : (e : ℤ) → Is (fin false 0 e) 0
+none-is e = zero-size (up e) L ∙ sym (zero-mul (down e))
+
 -- the magnitude of either sign
 pub size-is : (s : Bool) (m : ℕ) (e : ℤ) (u : ℕ) → Is (fin s m e) u → m * up e * L ≡ u * down e
 size-is false m e u h = h
 size-is true m e u h =
-    ap (λ (x : ℕ). x * up e * L) (h .0) ∙ none (up e) L (down e) ∙ ap (λ (x : ℕ). x * down e) (sym (h .1))
-  where
-    none : (a b c : ℕ) → 0 * a * b ≡ 0 * c
-    none a b c = omega arith
+    ap (λ (x : ℕ). x * up e * L) (h .0) ∙ none-is e ∙ ap (λ (x : ℕ). x * down e) (sym (h .1))
 
 no-ltb : (a : ℕ) → ltb a 0 ≡ false
 no-ltb a = same-test (ltb a 0) false (λ t. none a (ltb→lt a 0 t)) (λ t. absurd t)
@@ -93,10 +95,7 @@ and-same true = refl
 and-same false = refl
 
 pub no-size : (m a b : ℕ) → m ≡ 0 → m * a * b ≡ 0
-no-size m a b e = ap (λ (x : ℕ). x * a * b) e ∙ zeros a b
-  where
-    zeros : (a b : ℕ) → 0 * a * b ≡ 0
-    zeros a b = omega arith
+no-size m a b e = ap (λ (x : ℕ). x * a * b) e ∙ zero-size a b
 
 -- ---- the comparisons
 pub lt-is : (x y : Float) (u v : ℕ) → Is x u → Is y v → lt x y ≡ ltb u v
@@ -106,24 +105,18 @@ lt-is (fin false m e) (fin false n d) u v p q =
 lt-is (fin false m e) (fin true n d) u v p q = sym (no-ltb u) ∙ ap (λ (x : ℕ). ltb u x) (sym (q .1))
 lt-is (fin true m e) (fin false n d) u v p q =
     ap (λ (x : ℕ). ltb 0 (x * up e * down d + n * up d * down e)) (p .0)
-    ∙ ap (λ (x : ℕ). ltb x (0 * up e * down d + n * up d * down e)) (sym (zeros (up e) (down d)))
+    ∙ ap (λ (x : ℕ). ltb x (0 * up e * down d + n * up d * down e)) (sym (zero-size (up e) (down d)))
     ∙ ap (λ (x : ℕ). ltb (0 * up e * down d) x) (drop (up e) (down d) (n * up d * down e))
     ∙ ltb-cross (0 * up e) (n * up d) (down e) (down d) L 0 v (down-pos e) (down-pos d) (pow-pos 149)
     (size-is true 0 e 0 (refl, refl)) q
     ∙ ap (λ (x : ℕ). ltb x v) (sym (p .1))
   where
-    zeros : (a b : ℕ) → 0 * a * b ≡ 0
-    zeros a b = omega arith
-
     drop : (a b c : ℕ) → 0 * a * b + c ≡ c
     drop a b c = omega arith
 lt-is (fin true m e) (fin true n d) u v p q =
     ap (λ (x : ℕ). ltb (n * up d * down e) (x * up e * down d)) (p .0)
-    ∙ ap (λ (x : ℕ). ltb (n * up d * down e) x) (zeros (up e) (down d)) ∙ no-ltb (n * up d * down e)
+    ∙ ap (λ (x : ℕ). ltb (n * up d * down e) x) (zero-size (up e) (down d)) ∙ no-ltb (n * up d * down e)
     ∙ sym (no-ltb u) ∙ ap (λ (x : ℕ). ltb u x) (sym (q .1))
-  where
-    zeros : (a b : ℕ) → 0 * a * b ≡ 0
-    zeros a b = omega arith
 
 pub eq-is : (x y : Float) (u v : ℕ) → Is x u → Is y v → eq x y ≡ eqb u v
 unfolding eq
