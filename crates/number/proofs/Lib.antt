@@ -17,3 +17,6 @@ pub mod Finite
 pub mod NextUp
 pub mod SquareRoot
 pub mod Corners
+pub mod Zeros
+pub mod Alike
+pub mod Unmoved
