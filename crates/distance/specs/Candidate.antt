@@ -6,12 +6,21 @@ use mathlib.Core.List.{List, [], _∷_}
 use lib.Ieee.{Float, lt}
 use Rattle.geometry.specs.Vec3.{minus, dot}
 use Rattle.distance.specs.declared.candidate.Nearest.{Nearest}
+use Rattle.distance.specs.Segment.{placeOn}
 
 -- candidate n, from the place p on the first side to the place q on the second
 unfoldable pub fromTo : ℕ → List Float → List Float → Nearest
 fromTo n p q = record { squared = dot (minus q p) (minus q p); direction = minus q p; candidate = n }
 
--- the candidates of a pair in their order: there is always a first one
+-- candidate n, a point of the first side against a segment of the second
+unfoldable pub pointSegment : ℕ → List Float → List Float → List Float → Nearest
+pointSegment n p q0 q1 = fromTo n p (placeOn p q0 q1)
+
+-- candidate n, a segment of the first side against a point of the second
+unfoldable pub segmentPoint : ℕ → List Float → List Float → List Float → Nearest
+segmentPoint n q0 q1 p = fromTo n (placeOn p q0 q1) p
+
+-- the candidates of a pair in their order: there is always a first
 pub record Candidates : Type 0 where
   pub first : Nearest
   pub others : List Nearest

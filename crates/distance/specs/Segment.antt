@@ -7,7 +7,7 @@ use Rattle.number.specs.Number.{_⊘_, zero32, one32, clamp}
 use Rattle.geometry.specs.Vec3.{minus, dot}
 use Rattle.geometry.specs.Edge3.{lerpOf}
 
--- the ratio from q0, d being the segment's direction: 0 where the segment has no length
+-- the ratio of the place from q0, d being the segment's direction: 0 where the segment has no length
 unfoldable pub ratioAlong : List Float → List Float → List Float → Float
 ratioAlong p q0 d = cond (eq (dot d d) zero32) zero32 (clamp (dot (minus p q0) d ⊘ dot d d) zero32 one32)
 

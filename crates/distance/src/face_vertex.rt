@@ -1,9 +1,8 @@
-// Face against vertex: columns 0 to 2 and column 3 (docs/01-scope.md, "Our distance rules").
+// Face x0 x1 x2 against vertex x3 (docs/01-scope.md, "Our distance rules").
 use super::candidate;
 use super::candidate::Nearest;
 use super::products;
 use super::products::Products;
-use super::segment;
 use geometry::vec3;
 use number::order;
 
@@ -12,13 +11,9 @@ ghost use lib.Ieee.{lt};
 ghost use Rattle.distance.specs.Candidate.{firstSmallest};
 ghost use Rattle.distance.specs.FaceVertex as Def;
 
-fn face_products(x: [[f32; 3]; 4]) -> Products
-    ensures { λ r. ⌜ r ≡ Def.faceProducts x ⌝ }
+fn face_products(x0: [f32; 3], x1: [f32; 3], x2: [f32; 3], x3: [f32; 3]) -> Products
+    ensures { λ r. ⌜ r ≡ Def.faceProducts x0 x1 x2 x3 ⌝ }
 {
-    let x0 = x[0];
-    let x1 = x[1];
-    let x2 = x[2];
-    let x3 = x[3];
     products::products_of(vec3::sub(x1, x0), vec3::sub(x2, x0), vec3::sub(x3, x0))
 }
 
@@ -32,31 +27,23 @@ fn over_face(p: Products) -> bool
 }
 
 // The interior candidate, whether or not it is there.
-fn interior(x: [[f32; 3]; 4], p: Products) -> Nearest
-    ensures { λ r. ⌜ r ≡ Def.faceInterior x p ⌝ }
+fn interior(p: Products, x0: [f32; 3], x1: [f32; 3], x2: [f32; 3], x3: [f32; 3]) -> Nearest
+    ensures { λ r. ⌜ r ≡ Def.faceInterior p x0 x1 x2 x3 ⌝ }
 {
-    let x0 = x[0];
-    let x1 = x[1];
-    let x2 = x[2];
-    let x3 = x[3];
     let along_g = vec3::along(x0, products::cd_minus_be(p), vec3::sub(x1, x0));
     let place = vec3::along(along_g, products::ae_minus_bd(p), vec3::sub(x2, x0));
     candidate::from_to(3, place, x3)
 }
 
 // The first smallest of the four candidates: the last one that is nearer than all before it.
-pub fn face_vertex(x: [[f32; 3]; 4]) -> Nearest
-    ensures { λ r. ⌜ r ≡ firstSmallest (Def.faceVertex x) ⌝ }
+pub fn face_vertex(x0: [f32; 3], x1: [f32; 3], x2: [f32; 3], x3: [f32; 3]) -> Nearest
+    ensures { λ r. ⌜ r ≡ firstSmallest (Def.faceVertex x0 x1 x2 x3) ⌝ }
 {
-    let x0 = x[0];
-    let x1 = x[1];
-    let x2 = x[2];
-    let x3 = x[3];
-    let c0 = candidate::from_to(0, segment::place_on(x3, x0, x1), x3);
-    let c1 = candidate::from_to(1, segment::place_on(x3, x1, x2), x3);
-    let c2 = candidate::from_to(2, segment::place_on(x3, x2, x0), x3);
-    let p = face_products(x);
-    let inner = interior(x, p);
+    let p = face_products(x0, x1, x2, x3);
+    let c0 = candidate::segment_point(0, x0, x1, x3);
+    let c1 = candidate::segment_point(1, x1, x2, x3);
+    let c2 = candidate::segment_point(2, x2, x0, x3);
+    let inner = interior(p, x0, x1, x2, x3);
     let least1 = order::smaller(c0.squared, c1.squared);
     let least2 = order::smaller(least1, c2.squared);
     if over_face(p) & (inner.squared < least2) {
@@ -73,20 +60,16 @@ pub fn face_vertex(x: [[f32; 3]; 4]) -> Nearest
 
 // Whether the squared distance is above a threshold. The interior candidate is asked first: where it is there it is
 // often the nearest, and one candidate that is not above settles it.
-pub fn face_above(x: [[f32; 3]; 4], threshold: f32) -> bool
-    ensures { λ r. ⌜ r ≡ lt threshold (firstSmallest (Def.faceVertex x) .squared) ⌝ }
+pub fn face_above(x0: [f32; 3], x1: [f32; 3], x2: [f32; 3], x3: [f32; 3], threshold: f32) -> bool
+    ensures { λ r. ⌜ r ≡ lt threshold (firstSmallest (Def.faceVertex x0 x1 x2 x3) .squared) ⌝ }
 {
-    let p = face_products(x);
-    let inner = interior(x, p);
+    let p = face_products(x0, x1, x2, x3);
+    let inner = interior(p, x0, x1, x2, x3);
     if over_face(p) & (inner.squared <= threshold) {
         return false;
     }
-    let x0 = x[0];
-    let x1 = x[1];
-    let x2 = x[2];
-    let x3 = x[3];
-    let c0 = candidate::from_to(0, segment::place_on(x3, x0, x1), x3);
-    let c1 = candidate::from_to(1, segment::place_on(x3, x1, x2), x3);
-    let c2 = candidate::from_to(2, segment::place_on(x3, x2, x0), x3);
+    let c0 = candidate::segment_point(0, x0, x1, x3);
+    let c1 = candidate::segment_point(1, x1, x2, x3);
+    let c2 = candidate::segment_point(2, x2, x0, x3);
     (threshold < c0.squared) & !(c1.squared <= threshold) & !(c2.squared <= threshold)
 }
