@@ -2,16 +2,13 @@
 -- count as equal). Every operation takes alike numbers to alike numbers, the quotient where the divisor is no zero,
 -- and every comparison answers the same of them. Assumes nothing.
 use mathlib.Core.Path.{_≡_, refl, sym, ap, _∙_, subst}
-use mathlib.Core.Logic.{_⊎_, inl, inr}
+use mathlib.Core.Logic.{inl, inr}
 use Prim.Native.Nat.{ℕ, zero, suc, _+_, _*_, _<_}
 use native.Mathlib.Nat.{zero-mul, mul-zero, zero-add, add-zero, mul-pos, eq-zero-or-pos, zero-lt-suc}
 use mathlib.Core.Bool.{Bool, true, false, not, _&&_, _||_, Bool·beq, cond, true≢false}
 use lib.Dec.{T, ltb, eqb, lit<, leb·suc-zero, eqb·suc-zero}
-use lib.IntN.{pos}
-use lib.Ieee.{
-  Float, nan, inf, fin, binary32, up, down, unlike, round, neg, sum, add, sub, mul, div, below, level, lt, eq, le,
-  ofBits
-}
+use lib.Ieee.{Float, nan, inf, fin, binary32, up, down, unlike, ofBits}
+use lib.Ieee.{round, neg, sum, add, sub, mul, div, below, level, lt, eq, le}
 use lib.Ieee.Fits.{up-pos, down-pos}
 use Rattle.number.specs.Number.{_⊕_, _⊖_, _⊗_, _⊘_, zero32, smaller, larger, clamp}
 use Rattle.number.proofs.Units.{plus}
@@ -209,24 +206,21 @@ unfolding le
 le-alike {x} {x'} {y} {y'} p q =
     ap (λ (b : Bool). b || eq x y) (lt-alike p q) ∙ ap (λ (b : Bool). lt x' y' || b) (eq-alike p q)
 
--- ---- choices
-pub cond-alike : {b b' : Bool} {x x' y y' : Float} → b ≡ b' → Alike x x' → Alike y y'
+-- ---- choices: by equal tests, of which only the branch taken need be alike
+pub cond-alike : {b b' : Bool} {x x' y y' : Float} → b ≡ b' → (b ≡ true → Alike x x') → (b ≡ false → Alike y y')
     → Alike (cond b x y) (cond b' x' y')
-cond-alike {b' = b'} e p q = rw e (go b' p q)
-  where
-    go : (b : Bool) {x x' y y' : Float} → Alike x x' → Alike y y' → Alike (cond b x y) (cond b x' y')
-    go true p q = p
-    go false p q = q
+cond-alike {b = true} e f g = rw (← e) (f refl)
+cond-alike {b = false} e f g = rw (← e) (g refl)
 
 pub smaller-alike : {x x' y y' : Float} → Alike x x' → Alike y y' → Alike (smaller x y) (smaller x' y')
 unfolding smaller
-smaller-alike p q = cond-alike (lt-alike q p) q p
+smaller-alike p q = cond-alike (lt-alike q p) (λ t. q) (λ t. p)
 
 pub larger-alike : {x x' y y' : Float} → Alike x x' → Alike y y' → Alike (larger x y) (larger x' y')
 unfolding larger
-larger-alike p q = cond-alike (lt-alike p q) q p
+larger-alike p q = cond-alike (lt-alike p q) (λ t. q) (λ t. p)
 
 pub clamp-alike : {x x' low low' high high' : Float} → Alike x x' → Alike low low' → Alike high high'
     → Alike (clamp x low high) (clamp x' low' high')
 unfolding clamp
-clamp-alike p l h = cond-alike (lt-alike p l) l (cond-alike (lt-alike h p) h p)
+clamp-alike p l h = cond-alike (lt-alike p l) (λ t. l) (λ t. cond-alike (lt-alike h p) (λ u. h) (λ u. p))

@@ -19,7 +19,7 @@ round-none s a c z C =
     let e : round binary32 s 0 c ≡ fin s 0 (pos 0) = round-same binary32 s 0 c 0 1 C (lit< tt) (sym (zero-mul c)) in
     subst Zero (sym (ap (λ (x : ℕ). round binary32 s x c) z ∙ e)) zero-of
 
--- ---- the sum ±a / c + ±b / c, where one of the two is none
+-- ---- the sum ±a / c + ±b / c, where a or b is 0: `sum` with the answers of its two tests
 abbrev by-tests : Bool → ℕ → Bool → ℕ → ℕ → Bool → Bool → Float
 by-tests s a t b c less more =
     cond (Bool·beq s t) (round binary32 s (a + b) c)

@@ -1,0 +1,2 @@
+-- The laws of the distance rules.
+pub mod Alike
