@@ -1,2 +1,4 @@
 -- The laws of the distance rules.
+pub mod Choice
+pub mod Order
 pub mod Alike

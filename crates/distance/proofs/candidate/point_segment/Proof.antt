@@ -1,5 +1,6 @@
 -- `distance::candidate::point_segment` meets its contract. Assumes nothing.
 use borrow.Author.Needs.{needs}
+use Rattle.distance.specs.Candidate.{pointSegment}
 use Rattle.distance.proofs.candidate.point_segment.Statement.{statement}
 use Rattle.distance.proofs.candidate.point_segment.Tie as tie
 
@@ -10,7 +11,8 @@ from-to-requires : tie.Need-from-to-requires
 from-to-requires c κs = search needs
 
 returns : tie.Need-returns
-returns c = ?
+unfolding pointSegment
+returns c = cc
 
 pub point-segment-spec : {M : Type 1} → statement M
 point-segment-spec = tie.close (tie.spec place-on-requires from-to-requires returns)

@@ -1,5 +1,6 @@
 -- `distance::edge_edge::edge_products` meets its contract. Assumes nothing.
 use borrow.Author.Needs.{needs}
+use Rattle.distance.specs.EdgeEdge.{edgeProducts}
 use Rattle.distance.proofs.edge_edge.edge_products.Statement.{statement}
 use Rattle.distance.proofs.edge_edge.edge_products.Tie as tie
 
@@ -16,7 +17,8 @@ products-of-requires : tie.Need-products-of-requires
 products-of-requires c κs = search needs
 
 returns : tie.Need-returns
-returns c = ?
+unfolding edgeProducts
+returns c = cc
 
 pub edge-products-spec : {M : Type 1} → statement M
 edge-products-spec =

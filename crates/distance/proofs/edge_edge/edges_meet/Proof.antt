@@ -1,5 +1,6 @@
 -- `distance::edge_edge::edges_meet` meets its contract. Assumes nothing.
 use borrow.Author.Needs.{needs}
+use Rattle.distance.specs.EdgeEdge.{edgesMeet}
 use Rattle.distance.proofs.edge_edge.edges_meet.Statement.{statement}
 use Rattle.distance.proofs.edge_edge.edges_meet.Tie as tie
 
@@ -16,7 +17,8 @@ zero-to-one-requires-2 : tie.Need-zero-to-one-requires-2
 zero-to-one-requires-2 c κs = search needs
 
 returns : tie.Need-returns
-returns c = ?
+unfolding edgesMeet
+returns c = cc
 
 pub edges-meet-spec : {M : Type 1} → statement M
 edges-meet-spec =

@@ -1,5 +1,6 @@
 -- `distance::edge_edge::interior` meets its contract. Assumes nothing.
 use borrow.Author.Needs.{needs}
+use Rattle.distance.specs.EdgeEdge.{edgeInterior}
 use Rattle.distance.proofs.edge_edge.interior.Statement.{statement}
 use Rattle.distance.proofs.edge_edge.interior.Tie as tie
 
@@ -19,7 +20,8 @@ from-to-requires : tie.Need-from-to-requires
 from-to-requires c κs = search needs
 
 returns : tie.Need-returns
-returns c = ?
+unfolding edgeInterior
+returns c = cc
 
 pub interior-spec : {M : Type 1} → statement M
 interior-spec =

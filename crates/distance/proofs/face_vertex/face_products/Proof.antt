@@ -1,5 +1,6 @@
 -- `distance::face_vertex::face_products` meets its contract. Assumes nothing.
 use borrow.Author.Needs.{needs}
+use Rattle.distance.specs.FaceVertex.{faceProducts}
 use Rattle.distance.proofs.face_vertex.face_products.Statement.{statement}
 use Rattle.distance.proofs.face_vertex.face_products.Tie as tie
 
@@ -16,7 +17,8 @@ products-of-requires : tie.Need-products-of-requires
 products-of-requires c κs = search needs
 
 returns : tie.Need-returns
-returns c = ?
+unfolding faceProducts
+returns c = cc
 
 pub face-products-spec : {M : Type 1} → statement M
 face-products-spec =
