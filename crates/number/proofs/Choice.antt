@@ -7,7 +7,8 @@ use lib.Ieee.{Float, lt, le, isNan, ofBits}
 use Rattle.number.specs.Number.{zero32, one32, smaller, larger, clamp}
 use Rattle.number.proofs.Comparing.{not-lt-le, le-self, lt-le}
 
-pick : (P : Float → Type 0) (b : Bool) (x y : Float) → P x → P y → P (cond b x y)
+-- what holds of both holds of the one chosen
+pub pick : (P : Float → Type 0) (b : Bool) (x y : Float) → P x → P y → P (cond b x y)
 pick P true x y p q = p
 pick P false x y p q = q
 

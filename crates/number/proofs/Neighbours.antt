@@ -43,8 +43,8 @@ module _ (x : Float) (u : ℕ) (f : T (fits binary32 x)) (p : T (plus x)) (i : U
 
 -- ---- what lies above, and between
 -- what is finite and above some x that is not below zero has the sign plus
-pub after : (x w : Float) (u : ℕ) → Is x u → T (fits binary32 w) → T (finite w) → T (lt x w) → T (plus w)
-    × ((r : ℕ) × Unit32 w r)
+pub after : (x w : Float) (u : ℕ) → Is x u → T (fits binary32 w) → T (finite w) → T (lt x w)
+    → T (plus w) × ((r : ℕ) × Unit32 w r)
 unfolding lt
 after (fin false m e) (fin false n d) u p f k a = (tt, (n * 2 ^ shift d, fin-false n d f))
 after (fin false m e) (fin true n d) u p f k a = absurd a

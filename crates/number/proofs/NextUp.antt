@@ -13,7 +13,7 @@ use lib.Ieee.Compare.{differs-from-itself}
 use lib.Ieee.Fits.{and-i, and-l, eq→eqb, up-pos}
 use lib.Ieee.Scale.{finite}
 use Rattle.number.specs.Number.{zero32, nextUp}
-use Rattle.number.proofs.Units.{L, Is, Unit32, plus, shift, fin-false, pattern-is, says-lt, lt-says}
+use Rattle.number.proofs.Units.{L, Is, finite-is, Unit32, plus, shift, fin-false, pattern-is, says-lt, lt-says}
 use Rattle.number.proofs.Within.{or-r}
 use Rattle.number.proofs.Patterns.{no-nan-bits, bits-no-nan, val, val-next, val-back, bits-are}
 use Rattle.number.proofs.Neighbours.{bits-lt, bits-val, after, below-finite}
@@ -57,7 +57,7 @@ up-top x f h =
     e ∙ ap nextUp (sym e)
 
 -- equal to zero means a significand of 0
-pub eq-zero : (s : Bool) (m : ℕ) (e : ℤ) → eq (fin s (suc m) e) zero32 ≡ true → ⊥
+eq-zero : (s : Bool) (m : ℕ) (e : ℤ) → eq (fin s (suc m) e) zero32 ≡ true → ⊥
 unfolding eq ofBits
 eq-zero s m e h =
     let a = suc m * up e * 1 in
@@ -112,9 +112,6 @@ up-minus (fin false (suc m) e) f n z l =
 up-minus (fin true (suc m) e) f n z l = refl
 
 -- ---- from zero up the next value has the next pattern
-pub finite-is : (x : Float) (u : ℕ) → Is x u → T (finite x)
-finite-is (fin s m e) u i = tt
-
 zero-pattern : (e : ℤ) → toBits binary32 (fin false 0 e) ≡ 0
 unfolding lib.Ieee.size
 zero-pattern e = pattern-is (fin false 0 e) 0 tt (none (up e) L (down e))

@@ -12,17 +12,12 @@ use lib.Pow.{pow-pos}
 use lib.Ieee.{Float, nan, inf, fin, binary32, up, down, sub, neg, le, fits, isNan, ofBits}
 use lib.Ieee.Bits.{ofBits-fits}
 use lib.Ieee.Fits.{add-fits}
-use lib.Ieee.Scale.{finite}
 use Rattle.number.specs.Number.{_⊕_, _⊖_, zero32, size}
 use Rattle.number.proofs.Rounding.{rnd, rnd-fix}
-use Rattle.number.proofs.Units.{L, Top, Is, plus, shift, fin-false, same-float, le-says}
+use Rattle.number.proofs.Units.{zero-is, L, Top, Is, plus, shift, fin-false, same-float, le-says}
 use Rattle.number.proofs.Sums.{add-is}
 use Rattle.number.proofs.Within.{Within, not-lt-le}
 use Rattle.number.proofs.Signs.{sum-plus}
-
-zero-is : Is zero32 0
-unfolding ofBits
-zero-is = refl
 
 zero-plus : T (plus zero32)
 unfolding ofBits
@@ -106,7 +101,3 @@ size-fits (fin s (suc m) e) f = f
 pub size-within : (a : ℕ) (x : Float) → Within a x → Within a (size x)
 unfolding size
 size-within a (fin s m e) h = h
-
-pub size-finite : (x : Float) → T (finite x) → T (finite (size x))
-unfolding size
-size-finite (fin s m e) h = tt

@@ -28,7 +28,7 @@ unfolding rootOf
 not-above x h =
     sym (ap (λ (c : Bool). cond (c && isFinite x) (ofBits binary32 (last (reaches x) 31 0)) zero32) h)
 
-pub infinite : zero32 ≡ rootOf (inf false)
+infinite : zero32 ≡ rootOf (inf false)
 unfolding rootOf lt isFinite ofBits
 infinite = refl
 
@@ -40,7 +40,7 @@ zero-not-above e h = none (down e) (up e) (ltb→lt (0 * down e) (0 * up e * 1) 
     none : (a b : ℕ) → 0 * a < 0 * b * 1 → ⊥
     none a b h = omega arith
 
-pub above-bits : (x : Float) → T (fits binary32 x) → T (lt zero32 x) → toBits binary32 x ≤ 2139095040
+above-bits : (x : Float) → T (fits binary32 x) → T (lt zero32 x) → toBits binary32 x ≤ 2139095040
 unfolding lt ofBits
 above-bits (inf false) f h = unfold toBits in le-refl 2139095040
 above-bits (fin false m e) f h = le-of-lt (bits-lt (fin false m e) (m * 2 ^ shift e) f tt (fin-false m e f))
@@ -74,7 +74,7 @@ module _ (x : Float) (f : T (fits binary32 x)) (a : T (lt zero32 x)) where
       go : (y : Float) → Is y (val b) → T (isFinite y)
       go (fin s m e) i = tt
 
-  pub count-own : b < 2139095040 → count x ≡ val b
+  count-own : b < 2139095040 → count x ≡ val b
   count-own h = ap count (sym own) ∙ count-bits b h
 
   -- ---- a normal argument

@@ -14,10 +14,11 @@ use Rattle.number.specs.Number.{zero32}
 use Rattle.number.specs.Range.{isFinite}
 use Rattle.number.specs.Root.{count, twiceMiddle, twiceRootSquared, reaches, rootOf}
 use Rattle.number.specs.RootDigits.{RootBits, wholeOf}
+use Rattle.number.proofs.Numbers.{square-mono}
 use Rattle.number.proofs.Units.{L}
 use Rattle.number.proofs.Patterns.{val, weight, val-step}
 use Rattle.number.proofs.SquareRoot.Digits.{whole-ge}
-use Rattle.number.proofs.SquareRoot.Nearest.{square-mono, middle-is, reached, reach, root-at}
+use Rattle.number.proofs.SquareRoot.Nearest.{middle-is, reached, reach, root-at}
 
 -- the weight of the last of the root's digits
 abbrev pub unit : ℕ → ℕ

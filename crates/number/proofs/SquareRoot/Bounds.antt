@@ -16,10 +16,11 @@ use Rattle.number.specs.Number.{zero32}
 use Rattle.number.specs.Range.{isFinite}
 use Rattle.number.specs.Root.{count, twiceRootSquared, reaches, last, rootOf}
 use Rattle.number.specs.RootDigits.{wholeOf}
-use Rattle.number.proofs.Units.{L, Top, Is, Unit32, plus, says-lt}
+use Rattle.number.proofs.Numbers.{le-of-not-lt, square-back}
+use Rattle.number.proofs.Units.{L, Top, Is, Unit32, plus, zero-is, says-lt}
 use Rattle.number.proofs.Products.{Root}
 use Rattle.number.proofs.Within.{Within, within-finite, within-units, units-within}
-use Rattle.number.proofs.Signs.{power}
+use Rattle.number.proofs.Ranges.{power}
 use Rattle.number.proofs.Neighbours.{after}
 use Rattle.number.proofs.Patterns.{val, bits-are}
 use Rattle.number.proofs.SquareRoot.Nearest.{count-is}
@@ -42,10 +43,6 @@ pub record RootUnits (x : Float) (u : ℕ) : Type 0 where
   pub sign : T (plus (rootOf x))
   pub above : T (lt zero32 (rootOf x))
   pub near : Root (u * L) units
-
-zero-is : Is zero32 0
-unfolding ofBits
-zero-is = refl
 
 real : (x : Float) (u : ℕ) → Is x u → T (isFinite x)
 unfolding isFinite
@@ -154,13 +151,10 @@ above-within a x l f p h =
     let b : w < s → (s + w) * (s + w) ≤ twiceRootSquared x = rw (power-count a, r) at (n .below) in
     units-within a (rootOf x) s (k .is .is)
     (le-of-not-lt (λ (g : w < s).
-    not-le-of-lt g (half s w (theorem.root-le (s + w) (w + w) (le-trans (b g) (target-le a x (i .0) (i .1 .is) h))))))
+    not-le-of-lt g (half s w (square-back (s + w) (w + w) (le-trans (b g) (target-le a x (i .0) (i .1 .is) h))))))
   where
     half : (s w : ℕ) → s + w ≤ w + w → s ≤ w
     half s w h = omega arith
-
-    le-of-not-lt : {a b : ℕ} → (a < b → ⊥) → b ≤ a
-    le-of-not-lt {a} {b} f = omega arith
 
 pub root-within : (a : ℕ) (x : Float) → a ≤ 127 → T (fits binary32 x) → Within (2 * a) x → Within a (rootOf x)
 root-within a x l f h = go (lt zero32 x) refl

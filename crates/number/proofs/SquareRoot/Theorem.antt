@@ -17,11 +17,11 @@ use lib.Ieee.Exact.{HasValue}
 use Rattle.number.specs.Number.{zero32}
 use Rattle.number.specs.Range.{isFinite}
 use Rattle.number.specs.Root.{count, twiceMiddle, twiceRootSquared, reaches, rootOf}
+use Rattle.number.proofs.Numbers.{square-back}
 use Rattle.number.proofs.Units.{L, plus, shift, fin-false}
-use Rattle.number.proofs.Patterns.{val, val-lt, val-le, val-back, bits-back, bits-plus}
+use Rattle.number.proofs.Patterns.{val, val-lt, val-le, val-back, val-le-back, bits-back, bits-plus}
 use Rattle.number.proofs.Neighbours.{bits-lt}
-use Rattle.number.proofs.SquareRoot.Nearest.{count-bits, square-mono, middle-is, reached, reached-tie, missed}
-use Rattle.number.proofs.SquareRoot.Nearest.{missed-tie}
+use Rattle.number.proofs.SquareRoot.Nearest.{count-bits, middle-is, reached, reached-tie, missed, missed-tie}
 use Rattle.number.proofs.SquareRoot.Bits as bits
 use Rattle.number.proofs.SquareRoot.Found.{Found, found, found-root}
 
@@ -109,21 +109,8 @@ unfolding isFinite
 value-plus (fin false m e) u v = (tt, tt)
 value-plus (fin true m e) u v = absurd (true≢false (v .0))
 
--- ---- two steps back
 differ : (b c : ℕ) → b < c → val c ≡ val b → ⊥
 differ b c l e = lt-irrefl (val b) (lt-of-lt-of-le (val-lt b c l) (le-of-eq e))
-
-val-le-back : (b c : ℕ) → val b ≤ val c → b ≤ c
-val-le-back b c h = le-of-not-lt (λ (l : c < b). lt-irrefl (val c) (lt-of-lt-of-le (val-lt c b l) h))
-  where
-    le-of-not-lt : (c < b → ⊥) → b ≤ c
-    le-of-not-lt f = omega arith
-
-pub root-le : (a b : ℕ) → a * a ≤ b * b → a ≤ b
-root-le a b h = le-of-not-lt (λ (l : b < a). lt-irrefl (b * b) (lt-of-lt-of-le (square-mono b a l) h))
-  where
-    le-of-not-lt : (b < a → ⊥) → a ≤ b
-    le-of-not-lt f = omega arith
 
 -- of two neighbours one is odd
 even-once : (b c : ℕ) → b < c → c - 1 ≤ b → b % 2 ≡ 0 → c % 2 ≡ 0 → ⊥
@@ -199,7 +186,7 @@ module _ (x : Float) (f : T (fits binary32 x)) (a : T (lt zero32 x)) (h : T (isF
         let d : both * both ≡ n = le-antisymm (le-trans (mul-le-mul o o) t) g in
         let q = own .tie (differ c b l) d in
         let z = reached-tie x b at-root e in
-        let w : twiceMiddle b ≤ both = root-le (twiceMiddle b) both (le-of-eq (e ∙ sym d)) in
+        let w : twiceMiddle b ≤ both = square-back (twiceMiddle b) both (le-of-eq (e ∙ sym d)) in
         even-once c b l (val-le-back (b - 1) c (less (le-trans (le-of-eq (sym m)) w))) q z
       where
         sum : val c ≤ val (r .b - 1) → val c + val (r .b) ≤ val (r .b - 1) + val (r .b)
@@ -225,7 +212,7 @@ module _ (x : Float) (f : T (fits binary32 x)) (a : T (lt zero32 x)) (h : T (isF
         let d : both * both ≡ n = le-antisymm g (le-trans t (mul-le-mul o o)) in
         let q = own .tie (λ (e : val b ≡ val c). differ b c l (sym e)) d in
         let z = missed-tie x (b + 1) B past-root e in
-        let w : both ≤ twiceMiddle (b + 1) = root-le both (twiceMiddle (b + 1)) (le-of-eq (d ∙ sym e)) in
+        let w : both ≤ twiceMiddle (b + 1) = square-back both (twiceMiddle (b + 1)) (le-of-eq (d ∙ sym e)) in
         z (next-even b c l (val-le-back c (b + 1) (less (le-trans w (le-of-eq m)))) q)
       where
         sum : val (r .b + 1) ≤ val c → val (r .b) + val (r .b + 1) ≤ val c + val (r .b)

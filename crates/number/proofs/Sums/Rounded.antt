@@ -88,13 +88,13 @@ sum-tf a b c h = go (ltb a b) (ltb b a) (ltb→lt b a) (lt→ltb a b)
         ]
 
 pub add-opens : (s : Bool) (m : ℕ) (e : ℤ) (t : Bool) (n : ℕ) (d : ℤ)
-    → add binary32 (fin s m e) (fin t n d) ≡ sum binary32 s (m * up e * down d) t (n * up d * down e)
-    (down e * down d)
+    → add binary32 (fin s m e) (fin t n d)
+    ≡ sum binary32 s (m * up e * down d) t (n * up d * down e) (down e * down d)
 unfolding add
 add-opens s m e t n d = refl
 
 pub sub-opens : (s : Bool) (m : ℕ) (e : ℤ) (t : Bool) (n : ℕ) (d : ℤ)
-    → sub binary32 (fin s m e) (fin t n d) ≡ sum binary32 s (m * up e * down d) (not t) (n * up d * down e)
-    (down e * down d)
+    → sub binary32 (fin s m e) (fin t n d)
+    ≡ sum binary32 s (m * up e * down d) (not t) (n * up d * down e) (down e * down d)
 unfolding sub
 sub-opens s m e t n d = refl

@@ -12,6 +12,7 @@ use lib.IntN.{ℤ}
 use lib.Dec.{T, leb, ltb, eqb, leb→le, le→leb, ltb→lt, lt→ltb, eqb→eq}
 use lib.Pow.{pow-pos}
 use lib.Ieee.{Float, nan, inf, fin, up, down, lt, le, eq}
+use lib.Ieee.Scale.{finite}
 use lib.Ieee.Fits.{down-pos, eq→eqb}
 
 abbrev pub L : ℕ
@@ -39,20 +40,20 @@ module _ (a b de dd l u v : ℕ) (D : 0 < de) (E : 0 < dd) (K : 0 < l) (p : a * 
   right =
       mul-right-comm b de l ∙ ap (λ (x : ℕ). x * de) q ∙ mul-assoc v dd de ∙ ap (λ (x : ℕ). v * x) (mul-comm dd de)
 
-  pub cross-lt : a * dd < b * de → u < v
+  cross-lt : a * dd < b * de → u < v
   cross-lt h =
       lt-of-mul-lt-mul-right (de * dd)
       (lt-of-le-of-lt (le-of-eq (sym left)) (lt-of-lt-of-le (mul-lt-mul-of-pos-right h K) (le-of-eq right)))
 
-  pub lt-cross : u < v → a * dd < b * de
+  lt-cross : u < v → a * dd < b * de
   lt-cross h =
       lt-of-mul-lt-mul-right l (lt-of-le-of-lt (le-of-eq left)
       (lt-of-lt-of-le (mul-lt-mul-of-pos-right h (mul-pos D E)) (le-of-eq (sym right))))
 
-  pub cross-eq : a * dd ≡ b * de → u ≡ v
+  cross-eq : a * dd ≡ b * de → u ≡ v
   cross-eq h = eq-of-mul-eq-mul-right (de * dd) (mul-pos D E) u v (sym left ∙ ap (λ (x : ℕ). x * l) h ∙ right)
 
-  pub eq-cross : u ≡ v → a * dd ≡ b * de
+  eq-cross : u ≡ v → a * dd ≡ b * de
   eq-cross h = eq-of-mul-eq-mul-right l K (a * dd) (b * de) (left ∙ ap (λ (x : ℕ). x * (de * dd)) h ∙ sym right)
 
   ltb-cross : ltb (a * dd) (b * de) ≡ ltb u v
@@ -64,6 +65,9 @@ module _ (a b de dd l u v : ℕ) (D : 0 < de) (E : 0 < dd) (K : 0 < l) (p : a * 
   eqb-cross =
       same-test (eqb (a * dd) (b * de)) (eqb u v) (λ t. eq→eqb (cross-eq (eqb→eq (a * dd) (b * de) t)))
       (λ t. eq→eqb (eq-cross (eqb→eq u v t)))
+
+pub finite-is : (x : Float) (u : ℕ) → Is x u → T (finite x)
+finite-is (fin s m e) u i = tt
 
 -- the magnitude of either sign
 pub size-is : (s : Bool) (m : ℕ) (e : ℤ) (u : ℕ) → Is (fin s m e) u → m * up e * L ≡ u * down e
@@ -177,9 +181,3 @@ le-says x y u v p q t = leb→le u v (subst T (le-is x y u v p q) t)
 
 pub says-le : (x y : Float) (u v : ℕ) → Is x u → Is y v → u ≤ v → T (le x y)
 says-le x y u v p q h = subst T (sym (le-is x y u v p q)) (le→leb u v h)
-
-pub eq-says : (x y : Float) (u v : ℕ) → Is x u → Is y v → T (eq x y) → u ≡ v
-eq-says x y u v p q t = eqb→eq u v (subst T (eq-is x y u v p q) t)
-
-pub says-eq : (x y : Float) (u v : ℕ) → Is x u → Is y v → u ≡ v → T (eq x y)
-says-eq x y u v p q h = subst T (sym (eq-is x y u v p q)) (eq→eqb h)
