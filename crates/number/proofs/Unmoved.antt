@@ -12,7 +12,7 @@ use lib.Ieee.Fits.{up-pos, down-pos, round-fits}
 use lib.Ieee.Scale.{finite}
 use Rattle.number.specs.Number.{_⊕_, _⊗_, zero32}
 use Rattle.number.proofs.Rounding.{rnd, rnd-fix}
-use Rattle.number.proofs.Units.{L, Top, Unit32, shift, shift-is, fit, fin-false, same-float}
+use Rattle.number.proofs.Units.{L, Top, Unit32, shift, fin-false, same-float}
 use Rattle.number.proofs.Sums.{round-at}
 use Rattle.number.proofs.Sizes.{fits-plus}
 use Rattle.number.proofs.Zeros.{Zero, zero-of, round-none, sum-first, sum-none}
@@ -35,8 +35,7 @@ round-own s m e f = go (round binary32 s (m * up e) (down e)) (round-fits binary
     i = fin-false m e (fits-plus s m e f)
 
     exact : rnd (m * up e * L) (down e) ≡ u
-    exact =
-        ap (λ (x : ℕ). rnd x (down e)) (shift-is m e (fit s m e f .deep)) ∙ rnd-fix u (down e) (down-pos e) (i .rep)
+    exact = ap (λ (x : ℕ). rnd x (down e)) (i .is) ∙ rnd-fix u (down e) (down-pos e) (i .rep)
 
     own : HasValue (round binary32 s (m * up e) (down e)) s u L
     own =
