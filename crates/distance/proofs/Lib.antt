@@ -5,3 +5,4 @@ pub mod Above
 pub mod EdgeChoice
 pub mod FaceChoice
 pub mod Split
+pub mod Alike

@@ -23,3 +23,6 @@ pub mod Ranges
 pub mod NextUp
 pub mod SquareRoot
 pub mod Corners
+pub mod Zeros
+pub mod Alike
+pub mod Unmoved
