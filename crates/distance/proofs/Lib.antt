@@ -5,3 +5,7 @@ pub mod Above
 pub mod EdgeChoice
 pub mod FaceChoice
 pub mod Split
+pub mod Weights
+pub mod Ratios
+pub mod Listed
+pub mod Measured
