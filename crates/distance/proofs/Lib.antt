@@ -6,3 +6,7 @@ pub mod EdgeChoice
 pub mod FaceChoice
 pub mod Split
 pub mod Alike
+pub mod Weights
+pub mod Ratios
+pub mod Listed
+pub mod Measured
