@@ -8,6 +8,7 @@ pub mod Standing
 pub mod Kept
 pub mod Promises
 pub mod Clauses
+pub mod Admitted
 mod CrossPairs
 mod HalvingLoop
 mod WalkLoop
