@@ -1,7 +1,7 @@
 -- What a caller wants of the root of a positive finite x: it is an f32 of sign plus, above zero, a whole number of
 -- units nearest to the exact root (`Root` of Products), and of half the exponent's bound. Assumes nothing.
 use mathlib.Core.Path.{_≡_, refl, sym, ap, _∙_, subst}
-use mathlib.Core.Bool.{Bool, true, false, _&&_}
+use mathlib.Core.Bool.{Bool, true, false}
 use Prim.Native.Nat.{ℕ, _+_, _*_, _/_, _^_, _≤_, _<_, zero-le}
 use native.Mathlib.Nat.{le-trans, le-of-eq, le-of-lt, lt-of-lt-of-le, lt-of-le-of-lt, not-le-of-lt, mul-comm, mul-one}
 use native.Mathlib.Nat.{one-mul, mul-assoc, mul-mul-mul-comm, mul-pos, mul-le-mul-right, mul-le-mul-left}
@@ -10,10 +10,9 @@ use lib.Dec.{T, lt→ltb, lit<}
 use lib.Pow.{pow-add, pow-pos, pow-mono, pow-lt, shl-lt}
 use lib.Ieee.{Float, fin, binary32, lt, fits, ofBits}
 use lib.Ieee.Bits.{ofBits-fits}
-use lib.Ieee.Fits.{cond-fits}
 use Rattle.number.specs.Number.{zero32}
 use Rattle.number.specs.Range.{isFinite}
-use Rattle.number.specs.Root.{count, twiceRootSquared, reaches, last, rootOf}
+use Rattle.number.specs.Root.{count, twiceRootSquared, rootOf}
 use Rattle.number.specs.RootDigits.{wholeOf}
 use Rattle.number.proofs.Numbers.{le-of-not-lt, square-back}
 use Rattle.number.proofs.Units.{L, Top, Is, Unit32, plus, zero-is, says-lt}
@@ -30,12 +29,6 @@ use Rattle.number.proofs.SquareRoot.Theorem.{FromZero}
 use Rattle.number.proofs.SquareRoot.Theorem as theorem
 
 -- ---- of every x
-pub root-fits : (x : Float) → T (fits binary32 (rootOf x))
-unfolding rootOf
-root-fits x =
-    cond-fits binary32 (lt zero32 x && isFinite x) (ofBits binary32 (last (reaches x) 31 0)) zero32
-    (ofBits-fits binary32 (last (reaches x) 31 0)) (ofBits-fits binary32 0)
-
 zero-from : FromZero zero32
 unfolding ofBits isFinite
 zero-from = record { fit = ofBits-fits binary32 0; sign = tt; real = tt }
