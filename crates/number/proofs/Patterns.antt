@@ -1,11 +1,12 @@
--- The bit patterns of f32: what number each stands for, in units of 2 ^ -149, and that the next pattern stands for the
+-- The bit patterns of f32: what number each stands for, in units of 2 ^ -149, and that the next pattern stands for
+-- the
 -- next number. 8388608 is the weight of the exponent's field, 2139095040 plus infinity, 2147483648 the sign.
 -- Assumes nothing.
 use mathlib.Core.Path.{_≡_, refl, sym, ap, _∙_, subst}
 use mathlib.Core.Logic.{_⊎_, inl, inr}
 use Prim.Native.Nat.{ℕ, zero, suc, _+_, _-_, _*_, _/_, _%_, _^_, _≤_, _<_}
-use native.Mathlib.Nat.{le-of-eq, le-of-lt, lt-irrefl, lt-of-lt-of-le, lt-of-not-le, eq-or-lt-of-le}
-use native.Mathlib.Nat.{mul-assoc, add-mul, one-mul, pow-succ'}
+use native.Mathlib.Nat.{le-of-eq, le-of-lt, lt-irrefl, lt-of-lt-of-le, lt-of-not-le, eq-or-lt-of-le, mul-assoc}
+use native.Mathlib.Nat.{add-mul, one-mul, pow-succ'}
 use native.Mathlib.Numerals.{add-one}
 use native.Mathlib.Omega.{arith}
 use native.Mathlib.Decide.{le-ind}
@@ -42,7 +43,8 @@ fields-value s (suc x) t h =
     differ : (x : ℕ) → suc x < 255 → suc x ≡ 255 → ⊥
     differ x h e = omega arith
 
--- ---- the number of a pattern of sign plus: (b - w * 2 ^ 23) * 2 ^ w, with w one less than the field, but 0 at field 0
+-- ---- the number of a pattern of sign plus: (b - w * 2 ^ 23) * 2 ^ w, with w one less than the field, but 0 at field
+-- 0
 abbrev pub weight : ℕ → ℕ
 weight b = b / 8388608 - 1
 
