@@ -1,4 +1,5 @@
 -- The laws of f32 that the other crates cite.
+pub mod Numbers
 pub mod Rounding
 pub mod Units
 pub mod Sums
@@ -13,6 +14,7 @@ pub mod Halvings
 pub mod Comparing
 pub mod Choice
 pub mod Within
+pub mod Quotients
 pub mod Signs
 pub mod Later
 pub mod Sizes
