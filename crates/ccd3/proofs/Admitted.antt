@@ -1,15 +1,13 @@
 -- What an admitted call stands on: its limits, the squared distances of its points at every time from 0 to 1, and the
 -- start, which is time 0. Assumes nothing.
-use mathlib.Core.Path.{_≡_, subst}
-use mathlib.Core.Bool.{Bool}
 use mathlib.Core.List.{List}
 use Prim.Native.Nat.{ℕ, _<_}
 use lib.Dec.{T, lit≤}
-use lib.Ieee.{Float, binary32, le, fits}
+use lib.Ieee.{Float, binary32, le, fits, ofBits}
 use lib.Ieee.Fits.{and-i}
 use Rattle.number.specs.Number.{zero32, one32}
-use Rattle.number.proofs.Within.{within-finite, within-more}
 use Rattle.number.proofs.Ranges.{zero-to-one}
+use Rattle.number.proofs.Within.{within-finite, within-more}
 use Rattle.geometry.specs.Vec3.{at, col}
 use Rattle.geometry.specs.Columns.{moved}
 use Rattle.geometry.proofs.Bounds.{PointsWithin, moved-within}
@@ -28,6 +26,10 @@ pub record Fitting (x : List (List Float)) (l : Limits) : Type 0 where
   pub offset : T (fits binary32 (l .offset))
   pub clearance : T (fits binary32 (l .clearance))
   pub max-t : T (fits binary32 (l .«max_t»))
+
+zero-one : T (le zero32 zero32) × T (le zero32 one32)
+unfolding le ofBits
+zero-one = (tt, tt)
 
 module _ (x dx : List (List Float)) (split : ℕ) (l : Limits) (w : Walkable x dx split l) (f : Fitting x l) where
   sound : (y : List (List Float)) → PointsWithin 21 y → Sound (nearestOf split y .squared)
@@ -68,6 +70,3 @@ module _ (x dx : List (List Float)) (split : ℕ) (l : Limits) (w : Walkable x d
         (λ i j k n. within-finite 20 (at (col dx i) j) (moves i j k n)) (sound-start .sign)
         (sound-at zero32 (zero-one .0) (zero-one .1) .sign);
   }
-    where
-      zero-one : T (le zero32 zero32) × T (le zero32 one32)
-      zero-one = ?

@@ -9,6 +9,7 @@ pub mod Kept
 pub mod Promises
 pub mod Clauses
 pub mod Admitted
+mod Handed
 mod CrossPairs
 mod HalvingLoop
 mod WalkLoop
