@@ -1,4 +1,5 @@
--- The answer of the square root by its number and its value: the refusal of the argument, and its root. Assumes nothing.
+-- The answer of the square root by its number and its value: the refusal of the argument, and its root.
+-- Assumes nothing.
 use mathlib.Core.Path.{_≡_, refl}
 use mathlib.Core.Bool.{Bool, true, false, cond}
 use lib.Ieee.{Float, lt}

@@ -1,6 +1,6 @@
 -- The argument of the square root by its pattern: which patterns are above zero, what the definition answers
--- elsewhere, and the number of 24 digits whose root is taken, for a normal and for a subnormal argument. Assumes
--- nothing.
+-- elsewhere, and the number of 24 digits whose root is taken, of a normal and of a subnormal argument.
+-- Assumes nothing.
 use mathlib.Core.Path.{_≡_, refl, sym, ap, _∙_, subst}
 use mathlib.Core.Logic.{inl, inr}
 use mathlib.Core.Bool.{Bool, true, false, cond, _&&_, true≢false}
@@ -31,7 +31,8 @@ not-above x h =
 pub not-finite : (x : Float) → isFinite x ≡ false → zero32 ≡ rootOf x
 unfolding rootOf
 not-finite x h =
-    sym (ap (λ (c : Bool). cond (lt zero32 x && c) (ofBits binary32 (last (reaches x) 31 0)) zero32) h ∙ none (lt zero32 x))
+    sym (ap (λ (c : Bool). cond (lt zero32 x && c) (ofBits binary32 (last (reaches x) 31 0)) zero32) h
+    ∙ none (lt zero32 x))
   where
     none : (a : Bool) → cond (a && false) (ofBits binary32 (last (reaches x) 31 0)) zero32 ≡ zero32
     none true = refl

@@ -1,5 +1,5 @@
--- `number::root::square_root` meets its contract: the answer, by each way through its tests, then its number and value.
--- Assumes nothing.
+-- `number::root::square_root` meets its contract: the answer, by each way through its tests, then its number and its
+-- value. Assumes nothing.
 use mathlib.Core.Path.{_≡_, sym, ap, _∙_}
 use borrow.Author.Needs.{needs}
 use lib.Ieee.{Float}
