@@ -33,7 +33,8 @@ module _ (x : List (List Float)) (split : ℕ) (n : ℕ) (e : n ≡ splitRefusal
   by-refusal : (n ≡ 0 → ⊥) → refusedBy n ≡ measured x split
   unfolding measured
   by-refusal z =
-      (λ i. refusedBy (e i)) ∙ refused (foundAt x split) (refusedBy (splitRefusal x split)) (splitRefusal x split) n e z
+      (λ i. refusedBy (e i))
+      ∙ refused (foundAt x split) (refusedBy (splitRefusal x split)) (splitRefusal x split) n e z
 
 admit-split-requires : tie.Need-admit-split-requires
 admit-split-requires c κs = search needs
