@@ -6,7 +6,6 @@ use lib.Ieee.{Float, nan, inf, fin, binary32, add, sub, mul, div, lt, toBits, of
 
 infixl 65 _⊕_ _⊖_
 infixl 70 _⊗_ _⊘_
-
 abbrev pub _⊕_ : Float → Float → Float
 a ⊕ b = add binary32 a b
 

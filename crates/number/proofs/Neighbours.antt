@@ -1,0 +1,191 @@
+-- The bit patterns of the finite f32 values that are not below zero: a pattern's number of units, that a larger pattern has more, and that of two neighbours the upper one has the next pattern. Assumes nothing.
+use mathlib.Core.Path.{_≡_, refl, sym, ap, _∙_, subst}
+use mathlib.Core.Logic.{_⊎_, inl, inr}
+use Prim.Native.Nat.{ℕ, zero, suc, _+_, _-_, _*_, _/_, _%_, _^_, _≤_, _<_}
+use native.Mathlib.Nat.{le-refl, le-trans, le-of-eq, le-of-lt, lt-of-lt-of-le, lt-of-le-of-lt, lt-irrefl, lt-of-not-le, not-le-of-lt, eq-of-mul-eq-mul-right, eq-or-lt-of-le, mod-eq-of-lt, mul-one, mul-assoc, mul-lt-mul-of-pos-right, mul-le-mul-right, pow-succ', add-suc}
+use native.Mathlib.Omega.{arith}
+use native.Mathlib.Decide.{decLt, decLe}
+use mathlib.Core.Bool.{Bool, true, false, not, cond}
+use lib.Dec.{T, leb, ltb, eqb, leb→le, ltb→lt, lt→ltb, eqb→eq, not-T}
+use lib.Arith.{lt-of-le-ne}
+use lib.Pow.{pow-pos}
+use lib.Ieee.{Float, nan, inf, fin, binary32, down, size, odd, ofFields, ofBits, toBits, fits, isNan, lt, le}
+use lib.Ieee.Bits.{is-false, cond-no, ofBits-toBits, ofBits-fits, toBits-lt}
+use lib.Ieee.Digits.{size-le}
+use lib.Ieee.Fits.{down-pos, kept-lt}
+use lib.Ieee.Exact.{HasValue, odd-sign}
+use Rattle.number.proofs.Units.{L, Top, Is, Unit32, plus, lt-is, pattern, pattern-is}
+use Rattle.number.proofs.Sums.{to-is}
+
+ofBits-is : (b : ℕ) → ofBits binary32 b ≡ ofFields binary32 (leb 2147483648 b) (b % 2147483648 / 8388608) (b % 8388608)
+unfolding ofBits
+ofBits-is b = refl
+
+differ : (x : ℕ) → suc x < 255 → suc x ≡ 255 → ⊥
+differ x h e = omega arith
+
+under-ones : (t x : ℕ) → suc x < 255 → ofFields binary32 false (suc x) t ≡ odd 24 false (8388608 + t) x 149
+unfolding ofFields
+under-ones t x h = cond-no (eqb (suc x) 255) (cond (eqb t 0) (inf false) nan) (odd 24 false (8388608 + t) x 149) (not-T (eqb (suc x) 255) (λ (u : T (eqb (suc x) 255)). differ x h (eqb→eq (suc x) 255 u)))
+
+at-zero : (t : ℕ) → ofFields binary32 false 0 t ≡ odd 24 false t 0 149
+unfolding ofFields
+at-zero t = refl
+
+-- the number of units by the two fields
+abbrev pub value : ℕ → ℕ → ℕ
+value zero t = t
+value (suc x) t = (8388608 + t) * 2 ^ x
+
+fields-are : (x t : ℕ) → x < 255 → Is (ofFields binary32 false x t) (value x t)
+fields-are zero t h = subst (λ (z : Float). Is z t) (sym (at-zero t)) (subst (λ (w : ℕ). Is (odd 24 false t 0 149) w) (mul-one t) (to-is (odd 24 false t 0 149) (t * 2 ^ 0) (odd-sign 24 false t 0 149)))
+fields-are (suc x) t h = subst (λ (z : Float). Is z ((8388608 + t) * 2 ^ x)) (sym (under-ones t x h)) (to-is (odd 24 false (8388608 + t) x 149) ((8388608 + t) * 2 ^ x) (odd-sign 24 false (8388608 + t) x 149))
+
+-- 2139095040 is the pattern of the infinity
+small : (b : ℕ) → b < 2139095040 → b < 2147483648
+small b h = omega arith
+
+field-lt : (b : ℕ) → b < 2139095040 → b / 8388608 < 255
+field-lt b h = omega arith
+
+abbrev pub val : ℕ → ℕ
+val b = value (b / 8388608) (b % 8388608)
+
+pub bits-are : (b : ℕ) → b < 2139095040 → Is (ofBits binary32 b) (val b)
+bits-are b h =
+    subst (λ (z : Float). Is z (val b))
+    (sym (ofBits-is b
+    ∙ ap (λ (s : Bool). ofFields binary32 s (b % 2147483648 / 8388608) (b % 8388608)) (is-false (leb 2147483648 b) (not-T (leb 2147483648 b) (λ (u : T (leb 2147483648 b)). not-le-of-lt (small b h) (leb→le 2147483648 b u))))
+    ∙ ap (λ (x : ℕ). ofFields binary32 false (x / 8388608) (b % 8388608)) (mod-eq-of-lt (small b h))))
+    (fields-are (b / 8388608) (b % 8388608) (field-lt b h))
+
+-- ---- the next pattern has more
+step-in : (x t : ℕ) → value x t < value x (suc t)
+step-in zero t = le-refl (suc t)
+step-in (suc x) t = mul-lt-mul-of-pos-right (more t) (pow-pos x)
+  where
+    more : (t : ℕ) → 8388608 + t < 8388608 + suc t
+    more t = omega arith
+
+step-over : (x : ℕ) → value x 8388607 < value (suc x) 0
+step-over zero = last
+  where
+    last : 8388607 < 8388608 * 1
+    last = omega arith
+step-over (suc x) = top (2 ^ x) (2 ^ suc x) (pow-succ' 2 x) (pow-pos x)
+  where
+    top : (p q : ℕ) → q ≡ 2 * p → 0 < p → (8388608 + 8388607) * p < (8388608 + 0) * q
+    top p q e h = omega arith
+
+pub val-next : (b : ℕ) → val b < val (suc b)
+val-next b = go (decLt (suc (b % 8388608)) 8388608)
+  where
+    same-x : suc (b % 8388608) < 8388608 → b / 8388608 ≡ suc b / 8388608
+    same-x h = omega arith
+
+    next-t : suc (b % 8388608) < 8388608 → suc (b % 8388608) ≡ suc b % 8388608
+    next-t h = omega arith
+
+    next-x : ¬ (suc (b % 8388608) < 8388608) → suc (b / 8388608) ≡ suc b / 8388608
+    next-x h = omega arith
+
+    last-t : ¬ (suc (b % 8388608) < 8388608) → b % 8388608 ≡ 8388607
+    last-t h = omega arith
+
+    zero-t : ¬ (suc (b % 8388608) < 8388608) → 0 ≡ suc b % 8388608
+    zero-t h = omega arith
+
+    go : Dec (suc (b % 8388608) < 8388608) → val b < val (suc b)
+    go (yes h) = subst (λ (t : ℕ). val b < value (suc b / 8388608) t) (next-t h) (subst (λ (x : ℕ). val b < value x (suc (b % 8388608))) (same-x h) (step-in (b / 8388608) (b % 8388608)))
+    go (no n) = subst (λ (t : ℕ). value (b / 8388608) t < val (suc b)) (sym (last-t n)) (subst (λ (t : ℕ). value (b / 8388608) 8388607 < value (suc b / 8388608) t) (zero-t n) (subst (λ (x : ℕ). value (b / 8388608) 8388607 < value x 0) (next-x n) (step-over (b / 8388608))))
+
+val-more : (k b : ℕ) → val b < val (suc (b + k))
+val-more zero b = subst (λ (x : ℕ). val b < val (suc x)) (plain b) (val-next b)
+  where
+    plain : (b : ℕ) → b ≡ b + 0
+    plain b = omega arith
+val-more (suc k) b = subst (λ (x : ℕ). val b < val (suc x)) (sym (add-suc b k)) (lt-of-lt-of-le (val-more k b) (le-of-lt (val-next (suc (b + k)))))
+
+pub val-lt : (b c : ℕ) → b < c → val b < val c
+val-lt b c h = subst (λ (x : ℕ). val b < val x) (again b c h) (val-more (c - suc b) b)
+  where
+    again : (b c : ℕ) → b < c → suc (b + (c - suc b)) ≡ c
+    again b c h = omega arith
+
+-- ---- a value's own pattern
+pattern-lt : (u : ℕ) → u < Top → pattern u < 2139095040
+pattern-lt u h = fit (size u - 24) (u / 2 ^ (size u - 24)) (few (size u) (size-le u 277 h)) (kept-lt 24 u)
+  where
+    few : (z : ℕ) → z ≤ 277 → z - 24 ≤ 253
+    few z l = omega arith
+
+    fit : (k q : ℕ) → k ≤ 253 → q < 16777216 → 0 + k * 8388608 + q < 2139095040
+    fit k q a b = omega arith
+
+is-unique : (x : Float) (u v : ℕ) → Is x u → Is x v → u ≡ v
+is-unique (fin false m e) u v p q = eq-of-mul-eq-mul-right (down e) (down-pos e) u v (sym p ∙ q)
+is-unique (fin true m e) u v p q = p .1 ∙ sym (q .1)
+
+module _ (x : Float) (u : ℕ) (f : T (fits binary32 x)) (p : T (plus x)) (i : Unit32 x u) where
+  pub bits-lt : toBits binary32 x < 2139095040
+  bits-lt = subst (λ (b : ℕ). b < 2139095040) (sym (pattern-is x u p (i .is))) (pattern-lt u (i .under))
+
+  pub bits-val : val (toBits binary32 x) ≡ u
+  bits-val = is-unique x (val (toBits binary32 x)) u (subst (λ (y : Float). Is y (val (toBits binary32 x))) (ofBits-toBits binary32 x f) (bits-are (toBits binary32 x) bits-lt)) (i .is)
+
+-- x and y with nothing between: y has the next pattern
+pub next-bits : (x y : Float) (u v : ℕ) → T (fits binary32 x) → T (fits binary32 y) → T (plus x) → T (plus y) → Unit32 x u → Unit32 y v → u < v
+    → ((w : Float) → T (fits binary32 w) → T (lt x w) → T (lt w y) → ⊥) → toBits binary32 y ≡ suc (toBits binary32 x)
+next-bits x y u v f g p q i j h none = go (decLe c b)
+  where
+    b : ℕ
+    b = toBits binary32 x
+
+    c : ℕ
+    c = toBits binary32 y
+
+    val-le : c ≤ b → v ≤ u
+    val-le l = elim (eq-or-lt-of-le l) [
+      | inl e ↦ le-of-eq (sym (bits-val y v g q j) ∙ ap val e ∙ bits-val x u f p i)
+      | inr k ↦ le-of-lt (lt-of-le-of-lt (le-of-eq (sym (bits-val y v g q j))) (lt-of-lt-of-le (val-lt c b k) (le-of-eq (bits-val x u f p i))))
+    ]
+
+    between : suc b < c → ⊥
+    between l =
+        let w = ofBits binary32 (suc b) in
+        let k : Is w (val (suc b)) = bits-are (suc b) (lt-of-lt-of-le l (le-of-lt (bits-lt y v g q j))) in
+        let a : u < val (suc b) = lt-of-le-of-lt (le-of-eq (sym (bits-val x u f p i))) (val-next b) in
+        let d : val (suc b) < v = lt-of-lt-of-le (val-lt (suc b) c l) (le-of-eq (bits-val y v g q j)) in
+        none w (ofBits-fits binary32 (suc b)) (subst T (sym (lt-is x w u (val (suc b)) (i .is) k)) (lt→ltb u (val (suc b)) a)) (subst T (sym (lt-is w y (val (suc b)) v k (j .is))) (lt→ltb (val (suc b)) v d))
+
+    go : Dec (c ≤ b) → c ≡ suc b
+    go (yes l) = absurd (not-le-of-lt h (val-le l))
+    go (no n) = elim (eq-or-lt-of-le (lt-of-not-le n)) [ inl e ↦ sym e | inr k ↦ absurd (between k) ]
+
+-- ---- the next value up, by its pattern
+pub val-back : (b c : ℕ) → val b < val c → b < c
+val-back b c h = lt-of-not-le (λ (l : c ≤ b). go l)
+  where
+    go : c ≤ b → ⊥
+    go l = elim (eq-or-lt-of-le l) [ inl e ↦ lt-irrefl (val b) (subst (λ (x : ℕ). val b < val x) e h) | inr k ↦ lt-irrefl (val b) (lt-of-lt-of-le h (le-of-lt (val-lt c b k))) ]
+
+module _ (x : Float) (u : ℕ) (f : T (fits binary32 x)) (p : T (plus x)) (i : Unit32 x u) (h : suc (toBits binary32 x) < 2139095040) where
+  abbrev up-next : Float
+  up-next = ofBits binary32 (suc (toBits binary32 x))
+
+  pub next-above : T (lt x up-next)
+  next-above =
+      let v = val (suc (toBits binary32 x)) in
+      subst T (sym (lt-is x up-next u v (i .is) (bits-are (suc (toBits binary32 x)) h))) (lt→ltb u v (lt-of-le-of-lt (le-of-eq (sym (bits-val x u f p i))) (val-next (toBits binary32 x))))
+
+  pub next-none : (w : Float) (r : ℕ) → T (fits binary32 w) → T (plus w) → Unit32 w r → T (lt x w) → T (lt w up-next) → ⊥
+  next-none w r g q j a b =
+      let v = val (suc (toBits binary32 x)) in
+      let k : u < r = ltb→lt u r (subst T (lt-is x w u r (i .is) (j .is)) a) in
+      let l : r < v = ltb→lt r v (subst T (lt-is w up-next r v (j .is) (bits-are (suc (toBits binary32 x)) h)) b) in
+      let m : toBits binary32 x < toBits binary32 w = val-back (toBits binary32 x) (toBits binary32 w) (subst (λ (z : ℕ). z < val (toBits binary32 w)) (sym (bits-val x u f p i)) (lt-of-lt-of-le k (le-of-eq (sym (bits-val w r g q j))))) in
+      let n : toBits binary32 w < suc (toBits binary32 x) = val-back (toBits binary32 w) (suc (toBits binary32 x)) (lt-of-le-of-lt (le-of-eq (bits-val w r g q j)) l) in
+      clash (toBits binary32 x) (toBits binary32 w) m n
+    where
+      clash : (a b : ℕ) → a < b → b < suc a → ⊥
+      clash a b h k = omega arith
