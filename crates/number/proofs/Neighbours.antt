@@ -15,102 +15,7 @@ use lib.Ieee.Digits.{size-le}
 use lib.Ieee.Fits.{down-pos, kept-lt}
 use lib.Ieee.Exact.{HasValue, odd-sign}
 use Rattle.number.proofs.Units.{L, Top, Is, Unit32, plus, lt-is, pattern, pattern-is}
-use Rattle.number.proofs.Sums.{to-is}
-
-ofBits-is : (b : ℕ) → ofBits binary32 b ≡ ofFields binary32 (leb 2147483648 b) (b % 2147483648 / 8388608) (b % 8388608)
-unfolding ofBits
-ofBits-is b = refl
-
-differ : (x : ℕ) → suc x < 255 → suc x ≡ 255 → ⊥
-differ x h e = omega arith
-
-under-ones : (t x : ℕ) → suc x < 255 → ofFields binary32 false (suc x) t ≡ odd 24 false (8388608 + t) x 149
-unfolding ofFields
-under-ones t x h = cond-no (eqb (suc x) 255) (cond (eqb t 0) (inf false) nan) (odd 24 false (8388608 + t) x 149) (not-T (eqb (suc x) 255) (λ (u : T (eqb (suc x) 255)). differ x h (eqb→eq (suc x) 255 u)))
-
-at-zero : (t : ℕ) → ofFields binary32 false 0 t ≡ odd 24 false t 0 149
-unfolding ofFields
-at-zero t = refl
-
--- the number of units by the two fields
-abbrev pub value : ℕ → ℕ → ℕ
-value zero t = t
-value (suc x) t = (8388608 + t) * 2 ^ x
-
-fields-are : (x t : ℕ) → x < 255 → Is (ofFields binary32 false x t) (value x t)
-fields-are zero t h = subst (λ (z : Float). Is z t) (sym (at-zero t)) (subst (λ (w : ℕ). Is (odd 24 false t 0 149) w) (mul-one t) (to-is (odd 24 false t 0 149) (t * 2 ^ 0) (odd-sign 24 false t 0 149)))
-fields-are (suc x) t h = subst (λ (z : Float). Is z ((8388608 + t) * 2 ^ x)) (sym (under-ones t x h)) (to-is (odd 24 false (8388608 + t) x 149) ((8388608 + t) * 2 ^ x) (odd-sign 24 false (8388608 + t) x 149))
-
--- 2139095040 is the pattern of the infinity
-small : (b : ℕ) → b < 2139095040 → b < 2147483648
-small b h = omega arith
-
-field-lt : (b : ℕ) → b < 2139095040 → b / 8388608 < 255
-field-lt b h = omega arith
-
-abbrev pub val : ℕ → ℕ
-val b = value (b / 8388608) (b % 8388608)
-
-pub bits-are : (b : ℕ) → b < 2139095040 → Is (ofBits binary32 b) (val b)
-bits-are b h =
-    subst (λ (z : Float). Is z (val b))
-    (sym (ofBits-is b
-    ∙ ap (λ (s : Bool). ofFields binary32 s (b % 2147483648 / 8388608) (b % 8388608)) (is-false (leb 2147483648 b) (not-T (leb 2147483648 b) (λ (u : T (leb 2147483648 b)). not-le-of-lt (small b h) (leb→le 2147483648 b u))))
-    ∙ ap (λ (x : ℕ). ofFields binary32 false (x / 8388608) (b % 8388608)) (mod-eq-of-lt (small b h))))
-    (fields-are (b / 8388608) (b % 8388608) (field-lt b h))
-
--- ---- the next pattern has more
-step-in : (x t : ℕ) → value x t < value x (suc t)
-step-in zero t = le-refl (suc t)
-step-in (suc x) t = mul-lt-mul-of-pos-right (more t) (pow-pos x)
-  where
-    more : (t : ℕ) → 8388608 + t < 8388608 + suc t
-    more t = omega arith
-
-step-over : (x : ℕ) → value x 8388607 < value (suc x) 0
-step-over zero = last
-  where
-    last : 8388607 < 8388608 * 1
-    last = omega arith
-step-over (suc x) = top (2 ^ x) (2 ^ suc x) (pow-succ' 2 x) (pow-pos x)
-  where
-    top : (p q : ℕ) → q ≡ 2 * p → 0 < p → (8388608 + 8388607) * p < (8388608 + 0) * q
-    top p q e h = omega arith
-
-pub val-next : (b : ℕ) → val b < val (suc b)
-val-next b = go (decLt (suc (b % 8388608)) 8388608)
-  where
-    same-x : suc (b % 8388608) < 8388608 → b / 8388608 ≡ suc b / 8388608
-    same-x h = omega arith
-
-    next-t : suc (b % 8388608) < 8388608 → suc (b % 8388608) ≡ suc b % 8388608
-    next-t h = omega arith
-
-    next-x : ¬ (suc (b % 8388608) < 8388608) → suc (b / 8388608) ≡ suc b / 8388608
-    next-x h = omega arith
-
-    last-t : ¬ (suc (b % 8388608) < 8388608) → b % 8388608 ≡ 8388607
-    last-t h = omega arith
-
-    zero-t : ¬ (suc (b % 8388608) < 8388608) → 0 ≡ suc b % 8388608
-    zero-t h = omega arith
-
-    go : Dec (suc (b % 8388608) < 8388608) → val b < val (suc b)
-    go (yes h) = subst (λ (t : ℕ). val b < value (suc b / 8388608) t) (next-t h) (subst (λ (x : ℕ). val b < value x (suc (b % 8388608))) (same-x h) (step-in (b / 8388608) (b % 8388608)))
-    go (no n) = subst (λ (t : ℕ). value (b / 8388608) t < val (suc b)) (sym (last-t n)) (subst (λ (t : ℕ). value (b / 8388608) 8388607 < value (suc b / 8388608) t) (zero-t n) (subst (λ (x : ℕ). value (b / 8388608) 8388607 < value x 0) (next-x n) (step-over (b / 8388608))))
-
-val-more : (k b : ℕ) → val b < val (suc (b + k))
-val-more zero b = subst (λ (x : ℕ). val b < val (suc x)) (plain b) (val-next b)
-  where
-    plain : (b : ℕ) → b ≡ b + 0
-    plain b = omega arith
-val-more (suc k) b = subst (λ (x : ℕ). val b < val (suc x)) (sym (add-suc b k)) (lt-of-lt-of-le (val-more k b) (le-of-lt (val-next (suc (b + k)))))
-
-pub val-lt : (b c : ℕ) → b < c → val b < val c
-val-lt b c h = subst (λ (x : ℕ). val b < val x) (again b c h) (val-more (c - suc b) b)
-  where
-    again : (b c : ℕ) → b < c → suc (b + (c - suc b)) ≡ c
-    again b c h = omega arith
+use Rattle.number.proofs.Patterns.{val, val-next, val-lt, val-back, bits-are}
 
 -- ---- a value's own pattern
 pattern-lt : (u : ℕ) → u < Top → pattern u < 2139095040
@@ -163,12 +68,6 @@ next-bits x y u v f g p q i j h none = go (decLe c b)
     go (no n) = elim (eq-or-lt-of-le (lt-of-not-le n)) [ inl e ↦ sym e | inr k ↦ absurd (between k) ]
 
 -- ---- the next value up, by its pattern
-pub val-back : (b c : ℕ) → val b < val c → b < c
-val-back b c h = lt-of-not-le (λ (l : c ≤ b). go l)
-  where
-    go : c ≤ b → ⊥
-    go l = elim (eq-or-lt-of-le l) [ inl e ↦ lt-irrefl (val b) (subst (λ (x : ℕ). val b < val x) e h) | inr k ↦ lt-irrefl (val b) (lt-of-lt-of-le h (le-of-lt (val-lt c b k))) ]
-
 module _ (x : Float) (u : ℕ) (f : T (fits binary32 x)) (p : T (plus x)) (i : Unit32 x u) (h : suc (toBits binary32 x) < 2139095040) where
   abbrev up-next : Float
   up-next = ofBits binary32 (suc (toBits binary32 x))

@@ -16,7 +16,7 @@ use lib.Ieee.Scale.{finite}
 use lib.Ieee.Order.{drop, kept}
 use Rattle.number.specs.Number.{zero32, one32, clamp}
 use Rattle.number.proofs.Rounding.{rnd, Rep, rnd-mono, rnd-fix}
-use Rattle.number.proofs.Units.{L, Top}
+use Rattle.number.proofs.Units.{L, Top, Is, size-is}
 use Rattle.number.proofs.Sums.{round-at}
 
 abbrev pub Within : ℕ → Float → Type 0
@@ -35,6 +35,19 @@ rep-pow a = (1, a + 149, lit< tt, sym (pow-add 2 a 149) ∙ sym (one-mul (2 ^ (a
 
 from-value : (a : ℕ) (s : Bool) (x : Float) (w : ℕ) → w ≤ 2 ^ a * L → HasValue x s w L → Within a x
 from-value a s (fin t m e) w h v = le-of-mul-le-mul-right (le-trans (le-of-eq (v .1)) (le-trans (mul-le-mul-right (down e) h) (le-of-eq (mul-right-comm (2 ^ a) L (down e))))) (pow-pos 149)
+
+-- the bound in units
+pub within-units : (a : ℕ) (x : Float) (u : ℕ) → Is x u → Within a x → u ≤ 2 ^ a * L
+within-units a (fin s m e) u i h =
+    le-of-mul-le-mul-right
+    (le-trans (le-of-eq (sym (size-is s m e u i)))
+    (le-trans (mul-le-mul-right L h) (le-of-eq (mul-right-comm (2 ^ a) (down e) L)))) (down-pos e)
+
+pub units-within : (a : ℕ) (x : Float) (u : ℕ) → Is x u → u ≤ 2 ^ a * L → Within a x
+units-within a (fin s m e) u i h =
+    le-of-mul-le-mul-right
+    (le-trans (le-of-eq (size-is s m e u i))
+    (le-trans (mul-le-mul-right (down e) h) (le-of-eq (mul-right-comm (2 ^ a) L (down e))))) (pow-pos 149)
 
 pub round-within : (a : ℕ) (s : Bool) (num den : ℕ) → 0 < den → a ≤ 127 → num ≤ 2 ^ a * den → Within a (round binary32 s num den)
 round-within a s num den D l h =

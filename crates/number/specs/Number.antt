@@ -28,6 +28,10 @@ half32 = ofBits binary32 0x3f00_0000
 abbrev pub one32 : Float
 one32 = ofBits binary32 0x3f80_0000
 
+-- the largest finite one
+abbrev pub largest32 : Float
+largest32 = ofBits binary32 0x7f7f_ffff
+
 -- the absolute value: the sign is dropped, a zero's too
 unfoldable pub size : Float → Float
 size nan = nan
