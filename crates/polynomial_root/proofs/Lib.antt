@@ -1,3 +1,10 @@
 -- The laws of the root finders.
 pub mod Steps
+pub mod Places
+pub mod Gathered
+pub mod Orders
+pub mod Defined
+pub mod Spans
+pub mod Differences
+pub mod Linear
 pub mod Corners

@@ -1,0 +1,112 @@
+-- The order of f32 as the root finders use it: what lies in 0..t, held there by the clamp, and how large it can be.
+-- Assumes nothing.
+use Prim.Native.Nat.{ℕ, zero, suc, _+_, _*_, _^_, _≤_, _<_}
+use native.Mathlib.Nat.{le-trans, le-of-eq, le-of-lt, mul-one, one-mul, zero-mul, mul-comm, mul-assoc, mul-right-comm,
+  mul-pos, mul-le-mul-right, le-of-mul-le-mul-right, eq-zero-or-pos}
+use native.Mathlib.Omega.{arith}
+use mathlib.Core.Path.{_≡_, refl, sym, ap, _∙_, subst}
+use mathlib.Core.Logic.{_⊎_, inl, inr}
+use mathlib.Core.Bool.{Bool, true, false, not, _&&_, _||_, cond, Bool·beq}
+use lib.Dec.{T, ltb, eqb, ltb→lt, eqb→eq, eqb-refl}
+use lib.Pow.{pow-pos}
+use lib.Ieee.{Float, nan, inf, fin, binary32, up, down, lt, le, eq, isNan, below, level, ofBits}
+use lib.Ieee.Fits.{up-pos, down-pos, and-i, and-l, and-r}
+use lib.Ieee.Scale.{finite}
+use Rattle.number.specs.Number.{zero32, one32, clamp}
+use Rattle.number.specs.Range.{between}
+use Rattle.number.proofs.Within.{Within, or-l, or-r, not-lt-le}
+use Rattle.number.proofs.NoNan.{no-nan-lt}
+use Rattle.polynomial_root.specs.Roots.{written}
+
+-- ---- order
+pub test-true : {b : Bool} → b ≡ true → T b
+test-true e = subst T (sym e) tt
+
+pub lt-le : (x y : Float) → T (lt x y) → T (le x y)
+unfolding le
+lt-le x y h = or-l (lt x y) (eq x y) h
+
+beq-refl : (s : Bool) → T (Bool·beq s s)
+beq-refl true = tt
+beq-refl false = tt
+
+pub le-self : (x : Float) → T (not (isNan x)) → T (le x x)
+unfolding le eq isNan
+le-self nan h = absurd h
+le-self (inf s) h = or-r (lt (inf s) (inf s)) (Bool·beq s s) (beq-refl s)
+le-self (fin s m e) h =
+    let a = m * up e * down e in
+    or-r (lt (fin s m e) (fin s m e)) (level s a s a)
+    (and-i (eqb a a) (Bool·beq s s || eqb a 0) (eqb-refl a) (or-l (Bool·beq s s) (eqb a 0) (beq-refl s)))
+
+-- ---- the range 0..t
+module _ (t : Float) (above : T (lt zero32 t)) where
+  pub zero-in-range : T (between zero32 t zero32)
+  zero-in-range = and-i (le zero32 zero32) (le zero32 t) (le-self zero32 (no-nan-lt zero32 t above .0)) (lt-le zero32 t above)
+
+  pub end-in-range : T (between zero32 t t)
+  end-in-range = and-i (le zero32 t) (le t t) (lt-le zero32 t above) (le-self t (no-nan-lt zero32 t above .1))
+
+  pub written-in-range : (r : Float) → T (between zero32 t r) → T (between zero32 t (written r))
+  unfolding written
+  written-in-range r h = go (eq r zero32)
+    where
+      go : (b : Bool) → T (between zero32 t (cond b zero32 r))
+      go true = zero-in-range
+      go false = h
+
+  pub clamp-in-range : (x : Float) → T (not (isNan x)) → T (between zero32 t (clamp x zero32 t))
+  unfolding clamp
+  clamp-in-range x n =
+      go (lt x zero32) (lt t x) (not-lt-le x zero32 n (no-nan-lt zero32 t above .0))
+      (not-lt-le t x (no-nan-lt zero32 t above .1) n)
+    where
+      go : (a b : Bool) → (T (not a) → T (le zero32 x)) → (T (not b) → T (le x t))
+          → T (between zero32 t (cond a zero32 (cond b t x)))
+      go true b f g = zero-in-range
+      go false true f g = end-in-range
+      go false false f g = and-i (le zero32 x) (le x t) (f tt) (g tt)
+
+-- ---- sizes: what lies in 0..t is no larger than t
+pub no-more : (a b : ℕ) → T (ltb a b || (eqb a b && true)) → a ≤ b
+no-more a b h = go (ltb a b) (eqb a b) (ltb→lt a b) (eqb→eq a b) h
+  where
+    go : (p q : Bool) → (T p → a < b) → (T q → a ≡ b) → T (p || (q && true)) → a ≤ b
+    go true q f g h = le-of-lt (f tt)
+    go false true f g h = le-of-eq (g tt)
+    go false false f g h = absurd h
+
+nothing : (a b : ℕ) → T (eqb a b && eqb a 0) → a ≤ b
+nothing a b h = le-of-eq (eqb→eq a b (and-l (eqb a b) (eqb a 0) h))
+
+module _ (a : ℕ) (m u v : ℕ) where
+  small : m * u * 1 ≡ 0 → m * u ≤ 2 ^ a * v
+  small z = omega arith
+
+  smaller-by : (n w x : ℕ) → 0 < x → m * u * x ≤ n * w * v → n * w ≤ 2 ^ a * x → m * u ≤ 2 ^ a * v
+  smaller-by n w x X h k =
+      le-of-mul-le-mul-right
+      (le-trans h (le-trans (mul-le-mul-right v k) (le-of-eq (mul-right-comm (2 ^ a) x v))))
+      X
+
+pub within-range : (a : ℕ) (x t : Float) → T (between zero32 t x) → Within a t → Within a x
+unfolding le lt eq ofBits
+within-range a nan (fin t n d) h k = absurd h
+within-range a (inf true) (fin t n d) h k = absurd h
+within-range a (inf false) (fin true n d) h k = absurd h
+within-range a (inf false) (fin false n d) h k = absurd h
+within-range a (fin true m e) (fin t n d) h k =
+    let low = and-l (le zero32 (fin true m e)) (le (fin true m e) (fin t n d)) h in
+    small a m (up e) (down e)
+    (sym (eqb→eq (0 * down e) (m * up e * 1) (and-l (eqb (0 * down e) (m * up e * 1)) (eqb (0 * down e) 0) low))
+    ∙ zero-mul (down e))
+within-range a (fin false m e) (fin true n d) h k =
+    smaller-by a m (up e) (down e) n (up d) (down d) (down-pos d)
+    (nothing (m * up e * down d) (n * up d * down e)
+    (and-r (le zero32 (fin false m e)) (le (fin false m e) (fin true n d)) h))
+    k
+within-range a (fin false m e) (fin false n d) h k =
+    smaller-by a m (up e) (down e) n (up d) (down d) (down-pos d)
+    (no-more (m * up e * down d) (n * up d * down e)
+    (and-r (le zero32 (fin false m e)) (le (fin false m e) (fin false n d)) h))
+    k
