@@ -1,21 +1,22 @@
 -- The difference of two numbers on opposite sides of zero, or of a number and a zero: it is the sum of their sizes,
 -- rounded, and has the sign of the first, where that is not zero. Assumes nothing.
 use Prim.Native.Nat.{ℕ, _+_, _-_, _*_, _^_, _≤_, _<_}
-use native.Mathlib.Nat.{mul-one, zero-mul, add-mul, mul-pos, eq-zero-or-pos}
+use native.Mathlib.Nat.{le-trans, le-of-eq, lt-of-le-of-lt, mul-one, zero-mul, add-mul, mul-pos, eq-zero-or-pos}
 use native.Mathlib.Omega.{arith}
 use mathlib.Core.Path.{_≡_, refl, sym, ap, _∙_, subst}
 use mathlib.Core.Logic.{_⊎_, inl, inr}
 use mathlib.Core.Bool.{Bool, true, false, not, _&&_, cond, Bool·beq, true≢false, false≢true}
 use lib.IntN.{ℤ}
-use lib.Dec.{T, ltb, ltb→lt, lt→ltb}
+use lib.Dec.{T, ltb, ltb→lt, lt→ltb, lit<}
 use lib.Pow.{pow-pos}
-use lib.Ieee.{Float, fin, binary32, up, down, round, sum, sub}
+use lib.Ieee.{Float, fin, binary32, up, down, round, sum, sub, fits}
 use lib.Ieee.Fits.{down-pos}
 use lib.Ieee.Exact.{HasValue}
 use Rattle.number.specs.Number.{_⊖_}
-use Rattle.number.proofs.Rounding.{rnd}
-use Rattle.number.proofs.Units.{L, Top, left, right, no-size, none-of}
+use Rattle.number.proofs.Rounding.{rnd, rnd-mono, rnd-fix}
+use Rattle.number.proofs.Units.{L, Top, Unit32, shift, left, right, fin-false, no-size, none-of}
 use Rattle.number.proofs.Sums.{round-at, round-units}
+use Rattle.number.proofs.Sizes.{fits-plus}
 
 -- ---- the sum of a number and one on the other side of zero, or of a number and zero
 sum-same : (s : Bool) (a b c : ℕ) → sum binary32 s a s b c ≡ round binary32 s (a + b) c
@@ -51,7 +52,7 @@ sum-right s a b c z h = go s (ltb a b) (ltb b a) (lt→ltb a b)
     go true true q f = ap (λ (x : ℕ). round binary32 false x c) (omega arith)
     go false true q f = ap (λ (x : ℕ). round binary32 true x c) (omega arith)
 
--- ---- the difference of two numbers of u and v units on opposite sides of zero
+-- ---- whole numbers
 pub zero-of : (a b : ℕ) → 0 < b → a * b ≡ 0 → a ≡ 0
 zero-of a b p h = none-of a b 1 p (pow-pos 0) (mul-one (a * b) ∙ h)
 
@@ -64,6 +65,22 @@ pos-of a b c d p q h = elim (eq-zero-or-pos a) [
     clash : (x : ℕ) → 0 < x → x ≡ 0 → ⊥
     clash x l z = omega arith
 
+-- ---- units, and no overflow
+pub units-of : (s : Bool) (m : ℕ) (e : ℤ) → T (fits binary32 (fin s m e)) → Unit32 (fin false m e) (m * 2 ^ shift e)
+units-of s m e f = fin-false m e (fits-plus s m e f)
+
+-- what is rounded from a sum of 2 ^ 24 at most does not overflow
+pub no-overflow : (u v : ℕ) → u ≤ 2 ^ 23 * L → v ≤ 2 ^ 23 * L → rnd (u + v) 1 < Top
+no-overflow u v h k =
+    lt-of-le-of-lt
+    (le-trans (rnd-mono (u + v) 1 (2 ^ 24 * L * 1) 1 (pow-pos 0) (pow-pos 0) (enough u v L h k))
+    (le-of-eq (rnd-fix (2 ^ 24 * L) 1 (pow-pos 0) (1, 173, lit< tt, refl))))
+    (lit< tt)
+  where
+    enough : (u v l : ℕ) → u ≤ 2 ^ 23 * l → v ≤ 2 ^ 23 * l → (u + v) * 1 ≤ 2 ^ 24 * l * 1 * 1
+    enough u v l h k = omega arith
+
+-- ---- two numbers on opposite sides of zero
 -- opposite signs, or a zero
 abbrev pub Sides : Bool → Bool → ℕ → ℕ → Type 0
 Sides s t m n = (s ≡ not t) ⊎ ((m ≡ 0) ⊎ (n ≡ 0))

@@ -7,4 +7,8 @@ pub mod Defined
 pub mod Spans
 pub mod Differences
 pub mod Linear
+pub mod Ordered
+pub mod Written
+pub mod Admitted
+pub mod Promised
 pub mod Corners

@@ -2,7 +2,7 @@
 -- difference has the sign of a, where a is not zero, and is no smaller than a. Assumes nothing.
 use Prim.Native.Nat.{ℕ, _+_, _*_, _^_, _≤_, _<_, zero-le}
 use native.Mathlib.Nat.{
-  le-trans, le-of-eq, lt-of-le-of-lt, add-comm, mul-one, one-mul, zero-mul, mul-pos, mul-le-mul-right, le-of-mul-le-mul-right, eq-zero-or-pos,
+  le-trans, le-of-eq, add-comm, mul-one, one-mul, zero-mul, mul-pos, mul-le-mul-right, le-of-mul-le-mul-right, eq-zero-or-pos,
   eq-or-lt-of-le}
 use native.Mathlib.Omega.{arith}
 use mathlib.Core.Path.{_≡_, refl, sym, ap, _∙_, subst}
@@ -10,25 +10,24 @@ use mathlib.Core.Logic.{_⊎_, inl, inr}
 use mathlib.Core.Bool.{Bool, true, false, not, _&&_, _||_, cond, false≢true}
 use lib.IntN.{ℤ}
 use lib.Dec.{T, ltb, eqb, lt→ltb, eqb→eq, lit<, lit≤}
-use lib.Pow.{pow-pos, pow-lt}
+use lib.Pow.{pow-pos}
 use lib.Ieee.{Float, nan, inf, fin, binary32, up, down, round, div, lt, le, eq, unlike, fits, ofBits}
 use lib.Ieee.Fits.{up-pos, down-pos, and-i, and-l, and-r, eq→eqb}
 use lib.Ieee.Exact.{HasValue}
 use Rattle.number.specs.Number.{_⊖_, _⊘_, zero32, one32}
 use Rattle.number.specs.Range.{between}
-use Rattle.number.proofs.Rounding.{rnd, rnd-mono, rnd-fix}
-use Rattle.number.proofs.Units.{L, Top, Is, Unit32, shift, left, right, fin-false, no-size, none-of, says-le}
+use Rattle.number.proofs.Rounding.{rnd, rnd-fix}
+use Rattle.number.proofs.Units.{L, Top, Is, Unit32, shift, left, right, no-size, none-of, says-le}
 use Rattle.number.proofs.Sums.{round-at, to-is-minus}
 use Rattle.number.proofs.Later.{grows}
-use Rattle.number.proofs.Sizes.{fits-plus}
-use Rattle.number.proofs.Within.{Within, within-units, round-within, or-l, or-r}
+use Rattle.number.proofs.Within.{Within, within-more, within-units, round-within, or-l, or-r}
 use Rattle.number.proofs.Halvings.{round-plus}
 use Rattle.number.proofs.Signs.{plus-up}
 use Rattle.polynomial_root.specs.Spans.{bothZero}
 use Rattle.polynomial_root.specs.Lower.{opposite}
 use Rattle.polynomial_root.proofs.Orders.{no-more}
 use Rattle.polynomial_root.proofs.Defined.{zero-eq}
-use Rattle.polynomial_root.proofs.Differences.{zero-of, pos-of, Sides, difference}
+use Rattle.polynomial_root.proofs.Differences.{zero-of, pos-of, units-of, no-overflow, Sides, difference}
 
 zero-is : Is zero32 0
 unfolding ofBits
@@ -150,20 +149,6 @@ sides false m e false n d h =
     ]
 
 -- ---- the theorem
-units-of : (s : Bool) (m : ℕ) (e : ℤ) → T (fits binary32 (fin s m e)) → Unit32 (fin false m e) (m * 2 ^ shift e)
-units-of s m e f = fin-false m e (fits-plus s m e f)
-
--- what is rounded from at most 2 ^ 24 does not overflow
-no-overflow : (u v : ℕ) → u ≤ 2 ^ 20 * L → v ≤ 2 ^ 23 * L → rnd (u + v) 1 < Top
-no-overflow u v h k =
-    lt-of-le-of-lt
-    (le-trans (rnd-mono (u + v) 1 (2 ^ 24 * L * 1) 1 (pow-pos 0) (pow-pos 0) (enough u v L h k))
-    (le-of-eq (rnd-fix (2 ^ 24 * L) 1 (pow-pos 0) (1, 173, lit< tt, refl))))
-    (lit< tt)
-  where
-    enough : (u v l : ℕ) → u ≤ 2 ^ 20 * l → v ≤ 2 ^ 23 * l → (u + v) * 1 ≤ 2 ^ 24 * l * 1 * 1
-    enough u v l h k = omega arith
-
 pub linear-in-range : (a b : Float) → T (fits binary32 a) → T (fits binary32 b) → Within 20 a → Within 23 b
     → opposite a b ≡ true → bothZero a b ≡ false → T (between zero32 one32 (a ⊘ (a ⊖ b)))
 linear-in-range (fin s m e) (fin t n d) f g h k o z = over (fin s m e ⊖ fin t n d) (x .0) (x .1) (x .2)
@@ -198,7 +183,9 @@ linear-in-range (fin s m e) (fin t n d) f g h k o z = over (fin s m e ⊖ fin t 
     x : (b : Bool) × HasValue (fin s m e ⊖ fin t n d) b (rnd (u + v) 1) L × (0 < u → b ≡ s)
     x =
         difference s m e t n d u v (p .is) (q .is) (sides s m e t n d o) some
-        (no-overflow u v (within-units 20 (fin false m e) u (p .is) h) (within-units 23 (fin false n d) v (q .is) k))
+        (no-overflow u v
+        (within-units 23 (fin false m e) u (p .is) (within-more 20 23 (fin false m e) (lit≤ tt) h))
+        (within-units 23 (fin false n d) v (q .is) k))
 
     over : (y : Float) (b : Bool) → HasValue y b (rnd (u + v) 1) L → (0 < u → b ≡ s)
         → T (between zero32 one32 (fin s m e ⊘ y))

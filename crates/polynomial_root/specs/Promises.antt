@@ -1,6 +1,7 @@
 -- What the answers promise beside being the defined ones (docs/01-scope.md, "Roots"). Statements, proved in proofs/.
 use Prim.Native.Nat.{ℕ, _≤_, _<_}
 use mathlib.Core.Path.{_≡_}
+use mathlib.Core.Logic.{_⊎_}
 use mathlib.Core.Bool.{Bool, cond, not, _&&_}
 use lib.Dec.{T}
 use lib.ListN.{length, getD}
@@ -29,6 +30,11 @@ NoNan a = Each (λ r. T (not (isNan r))) a
 -- each answered root lies in 0..end, and so is finite
 abbrev pub InRange : Float → Roots → Type 0
 InRange end a = Each (λ r. T (between zero32 end r)) a
+
+-- none or two roots, the smaller first
+pub record NoneOrTwo (a : Roots) : Type 0 where
+  pub number : (a .count ≡ 0) ⊎ (a .count ≡ 2)
+  pub order : a .count ≡ 2 → T (le (getD (a .roots) 0 nan) (getD (a .roots) 1 nan))
 
 -- the end of the range that the roots lie in: a linear root is a fraction of 0..t, and may lie above t
 abbrev pub reach : Cubic → Float → Float
