@@ -72,7 +72,7 @@ three-within = lit≤ tt
 
 -- ---- a cubic whose coefficients are at most 2 ^ 20 in size, at a place of size 1 at most
 module _ (p : Cubic) (r : Float) (w0 : Within 20 (p .c0)) (w1 : Within 20 (p .c1)) (w2 : Within 20 (p .c2))
-  (w3 : Within 20 (p .c3)) (w : Within 0 r) where
+    (w3 : Within 20 (p .c3)) (w : Within 0 r) where
   -- a product with r is no larger
   times : (a : ℕ) (x : Float) → a ≤ 127 → Within a x → Within a (x ⊗ r)
   times a x l i = subst (λ (n : ℕ). Within n (x ⊗ r)) (add-zero a) (mul-within a 0 x r (omega arith) i w)

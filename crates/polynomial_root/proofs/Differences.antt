@@ -86,7 +86,7 @@ abbrev pub Sides : Bool → Bool → ℕ → ℕ → Type 0
 Sides s t m n = (s ≡ not t) ⊎ ((m ≡ 0) ⊎ (n ≡ 0))
 
 module _ (s : Bool) (m : ℕ) (e : ℤ) (t : Bool) (n : ℕ) (d : ℤ) (u v : ℕ)
-  (P : m * up e * L ≡ u * down e) (Q : n * up d * L ≡ v * down d) where
+    (P : m * up e * L ≡ u * down e) (Q : n * up d * L ≡ v * down d) where
   abbrev A : ℕ
   A = m * up e * down d
 
@@ -134,7 +134,7 @@ module _ (s : Bool) (m : ℕ) (e : ℤ) (t : Bool) (n : ℕ) (d : ℤ) (u v : �
       both s (inl z) = (
         not s,
         put (not s) (sum binary32 s A (not s) B C)
-        (sum-right s A B C (no-left z .0) (pos-of B L v C (rest (no-left z .1)) C-pos in-right)),
+            (sum-right s A B C (no-left z .0) (pos-of B L v C (rest (no-left z .1)) C-pos in-right)),
         λ l. absurd (none (no-left z .1) l),
       )
         where
@@ -146,7 +146,7 @@ module _ (s : Bool) (m : ℕ) (e : ℤ) (t : Bool) (n : ℕ) (d : ℤ) (u v : �
       both s (inr z) = (
         s,
         put s (sum binary32 s A (not s) B C)
-        (sum-left s A B C (no-right z .0) (pos-of A L u C (rest (no-right z .1)) C-pos in-left)),
+            (sum-left s A B C (no-right z .0) (pos-of A L u C (rest (no-right z .1)) C-pos in-left)),
         λ l. refl,
       )
         where

@@ -2,8 +2,18 @@
 -- difference has the sign of a, where a is not zero, and is no smaller than a. Assumes nothing.
 use Prim.Native.Nat.{ℕ, _+_, _*_, _^_, _≤_, _<_, zero-le}
 use native.Mathlib.Nat.{
-  le-trans, le-of-eq, add-comm, mul-one, one-mul, zero-mul, mul-pos, mul-le-mul-right, le-of-mul-le-mul-right, eq-zero-or-pos,
-  eq-or-lt-of-le}
+  le-trans,
+  le-of-eq,
+  add-comm,
+  mul-one,
+  one-mul,
+  zero-mul,
+  mul-pos,
+  mul-le-mul-right,
+  le-of-mul-le-mul-right,
+  eq-zero-or-pos,
+  eq-or-lt-of-le,
+}
 use native.Mathlib.Omega.{arith}
 use mathlib.Core.Path.{_≡_, refl, sym, ap, _∙_, subst}
 use mathlib.Core.Logic.{_⊎_, inl, inr}
@@ -62,7 +72,7 @@ zero-up true n d z D =
 
 -- x of u units over a number of w units, u at most, that has x's sign where x is not zero
 module _ (s : Bool) (m : ℕ) (e : ℤ) (t : Bool) (k : ℕ) (j : ℤ) (u w : ℕ)
-  (P : m * up e * L ≡ u * down e) (Q : k * up j * L ≡ w * down j) (more : u ≤ w) (some : 0 < w) where
+    (P : m * up e * L ≡ u * down e) (Q : k * up j * L ≡ w * down j) (more : u ≤ w) (some : 0 < w) where
   abbrev N : ℕ
   N = m * up e * down j
 
@@ -168,9 +178,9 @@ linear-in-range (fin s m e) (fin t n d) f g h k o z = over (fin s m e ⊖ fin t 
     some : 0 < u + v
     some = elim (eq-zero-or-pos (u + v)) [
       | inl y ↦ absurd (subst T z
-        (and-i (eq (fin s m e) zero32) (eq (fin t n d) zero32)
-        (zero-eq s m e (zero-of m (2 ^ shift e) (pow-pos (shift e)) (first u v y)))
-        (zero-eq t n d (zero-of n (2 ^ shift d) (pow-pos (shift d)) (second u v y)))))
+          (and-i (eq (fin s m e) zero32) (eq (fin t n d) zero32)
+          (zero-eq s m e (zero-of m (2 ^ shift e) (pow-pos (shift e)) (first u v y)))
+          (zero-eq t n d (zero-of n (2 ^ shift d) (pow-pos (shift d)) (second u v y)))))
       | inr l ↦ l
     ]
       where

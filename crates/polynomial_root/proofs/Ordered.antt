@@ -2,7 +2,18 @@
 -- in size, as a slope's are (the original's `assert!(x1 <= x2)`). Assumes nothing.
 use Prim.Native.Nat.{ℕ, _+_, _*_, _^_, _≤_, _<_}
 use native.Mathlib.Nat.{
-  le-trans, le-of-eq, lt-of-lt-of-le, lt-of-le-of-lt, mul-one, one-mul, zero-mul, mul-assoc, mul-comm, mul-pos, eq-zero-or-pos}
+  le-trans,
+  le-of-eq,
+  lt-of-lt-of-le,
+  lt-of-le-of-lt,
+  mul-one,
+  one-mul,
+  zero-mul,
+  mul-assoc,
+  mul-comm,
+  mul-pos,
+  eq-zero-or-pos,
+}
 use native.Mathlib.Omega.{arith}
 use mathlib.Core.Path.{_≡_, refl, sym, ap, _∙_, subst}
 use mathlib.Core.Logic.{_⊎_, inl, inr}
@@ -21,10 +32,27 @@ use Rattle.number.proofs.Units.{L, Top, shift}
 use Rattle.number.proofs.Sums.{round-at, round-units}
 use Rattle.number.proofs.Later.{grows}
 use Rattle.number.proofs.Within.{
-  Within, within-finite, within-more, within-units, add-within, sub-within, mul-within, not-lt-le}
+  Within,
+  within-finite,
+  within-more,
+  within-units,
+  add-within,
+  sub-within,
+  mul-within,
+  not-lt-le,
+}
 use Rattle.number.proofs.SquareRoot.Bounds.{root-within}
 use Rattle.polynomial_root.specs.Quadratic.{
-  two32, four32, discriminant, signOf, stable, direct, other, inOrder, solved}
+  two32,
+  four32,
+  discriminant,
+  signOf,
+  stable,
+  direct,
+  other,
+  inOrder,
+  solved,
+}
 use Rattle.polynomial_root.specs.declared.quadratic.Solved.{Solved}
 use Rattle.polynomial_root.specs.declared.quadratic.Solved.the-variants.{Neither, Both}
 use Rattle.polynomial_root.proofs.Orders.{test-true, lt-le}
@@ -102,7 +130,7 @@ unfolding neg
 neg-within a (fin s m e) h = h
 
 module _ (c0 c1 c2 : Float) (f : T (fits binary32 c2)) (w0 : Within 22 c0) (w1 : Within 22 c1) (w2 : Within 22 c2)
-  (n : eq c2 zero32 ≡ false) where
+    (n : eq c2 zero32 ≡ false) where
   discriminant-within : Within 48 (discriminant c0 c1 c2)
   discriminant-within =
       let a : Within 46 (c1 ⊗ c1) = within-more 44 46 (c1 ⊗ c1) (lit≤ tt) (mul-within 22 22 c1 c1 (lit≤ tt) w1 w1) in

@@ -1,8 +1,21 @@
 -- The order of f32 as the root finders use it: what lies in 0..t, held there by the clamp, and how large it can be.
 -- Assumes nothing.
 use Prim.Native.Nat.{ℕ, zero, suc, _+_, _*_, _^_, _≤_, _<_}
-use native.Mathlib.Nat.{le-trans, le-of-eq, le-of-lt, mul-one, one-mul, zero-mul, mul-comm, mul-assoc, mul-right-comm,
-  mul-pos, mul-le-mul-right, le-of-mul-le-mul-right, eq-zero-or-pos}
+use native.Mathlib.Nat.{
+  le-trans,
+  le-of-eq,
+  le-of-lt,
+  mul-one,
+  one-mul,
+  zero-mul,
+  mul-comm,
+  mul-assoc,
+  mul-right-comm,
+  mul-pos,
+  mul-le-mul-right,
+  le-of-mul-le-mul-right,
+  eq-zero-or-pos,
+}
 use native.Mathlib.Omega.{arith}
 use mathlib.Core.Path.{_≡_, refl, sym, ap, _∙_, subst}
 use mathlib.Core.Logic.{_⊎_, inl, inr}

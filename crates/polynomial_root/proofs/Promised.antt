@@ -19,10 +19,22 @@ use Rattle.polynomial_root.specs.Quadratic.{two32, solved}
 use Rattle.polynomial_root.specs.Newton.{three32, valueAt}
 use Rattle.polynomial_root.specs.Spans.{bothZero}
 use Rattle.polynomial_root.specs.Lower.{
-  vanishes, constantRoots, opposite, linearRoots, keep, keptRoots, lowerRoots}
+  vanishes,
+  constantRoots,
+  opposite,
+  linearRoots,
+  keep,
+  keptRoots,
+  lowerRoots,
+}
 use Rattle.polynomial_root.specs.Cubic.{spanRoots, cubicRoots}
 use Rattle.polynomial_root.specs.Admission.{
-  finiteQuadratic, allowedQuadratic, finiteCubic, allowedCubic, admitted}
+  finiteQuadratic,
+  allowedQuadratic,
+  finiteCubic,
+  allowedCubic,
+  admitted,
+}
 use Rattle.polynomial_root.specs.Called.{solvedRoots, quadraticRoot, cubicRootsInRange}
 use Rattle.polynomial_root.specs.Promises.{Tidy, NoNan, InRange, NoneOrTwo, reach}
 use Rattle.polynomial_root.specs.declared.answer.Roots.{Roots}

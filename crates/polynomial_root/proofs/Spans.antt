@@ -20,7 +20,13 @@ use Rattle.polynomial_root.specs.declared.quadratic.Solved.{Solved}
 use Rattle.polynomial_root.specs.declared.quadratic.Solved.the-variants.{Neither, Both}
 use Rattle.polynomial_root.specs.declared.span.End.{End}
 use Rattle.polynomial_root.proofs.Orders.{
-  test-true, lt-le, zero-in-range, written-in-range, clamp-in-range, within-range}
+  test-true,
+  lt-le,
+  zero-in-range,
+  written-in-range,
+  clamp-in-range,
+  within-range,
+}
 use Rattle.polynomial_root.proofs.Defined.{quotient-no-nan, difference-no-nan, value-within, slope-within}
 use Rattle.polynomial_root.proofs.Places.{Holds, refused-holds}
 use Rattle.polynomial_root.proofs.Gathered.{Gives, after-holds}
