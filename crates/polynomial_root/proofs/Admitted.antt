@@ -12,7 +12,7 @@ use Rattle.polynomial_root.specs.Roots.{refused}
 use Rattle.polynomial_root.specs.Admission.{allowedQuadratic, allowedCubic, admitted}
 use Rattle.polynomial_root.specs.declared.answer.Roots.{Roots}
 use Rattle.polynomial_root.specs.declared.newton.Cubic.{Cubic}
-use Rattle.polynomial_root.proofs.Orders.{test-true, lt-le, within-range}
+use Rattle.polynomial_root.proofs.Orders.{lt-le, within-range}
 use Rattle.polynomial_root.proofs.Spans.{Allowed}
 
 pub limit-within : (x : Float) → T (inLimit x) → Within 20 x
@@ -50,8 +50,8 @@ allowed-quadratic c0 c1 c2 h =
 pub allowed-cubic : (p : Cubic) (t epsilon : Float) → T (allowedCubic p t epsilon) → Allowed p t
 allowed-cubic p t epsilon h =
     let x =
-    five (inLimit (p .c0)) (inLimit (p .c1)) (inLimit (p .c2)) (inLimit (p .c3)) (aboveZeroToOne t) (zeroToLimit epsilon)
-    h in
+    five (inLimit (p .c0)) (inLimit (p .c1)) (inLimit (p .c2)) (inLimit (p .c3)) (aboveZeroToOne t)
+    (zeroToLimit epsilon) h in
     let r = unit-within t (x .4) in
     record {
       w0 = limit-within (p .c0) (x .0);

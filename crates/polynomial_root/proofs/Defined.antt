@@ -3,11 +3,11 @@
 use Prim.Native.Nat.{ℕ, suc, _+_, _-_, _*_, _≤_}
 use native.Mathlib.Nat.{add-zero}
 use native.Mathlib.Omega.{arith}
-use mathlib.Core.Path.{_≡_, refl, sym, ap, _∙_, subst}
+use mathlib.Core.Path.{_≡_, ap, subst}
 use mathlib.Core.Bool.{Bool, true, false, not, _&&_, _||_, cond, Bool·beq}
 use lib.IntN.{ℤ}
 use lib.Dec.{T, ltb, eqb, eqb→eq, lit≤}
-use lib.Ieee.{Float, nan, inf, fin, binary32, up, down, round, sum, add, sub, mul, div, neg, eq, isNan, unlike, ofBits}
+use lib.Ieee.{Float, nan, inf, fin, binary32, up, down, round, sum, add, sub, div, neg, eq, isNan, unlike, ofBits}
 use lib.Ieee.Fits.{and-i, eq→eqb}
 use lib.Ieee.Scale.{finite}
 use Rattle.number.specs.Number.{_⊕_, _⊖_, _⊗_, _⊘_, zero32}
@@ -95,4 +95,5 @@ module _ (p : Cubic) (r : Float) (w0 : Within 20 (p .c0)) (w1 : Within 20 (p .c1
       let i : Within 21 (a ⊗ r) = times 21 a (lit≤ tt) (mul-within 1 20 two32 (p .c2) (lit≤ tt) two-within w2) in
       let j : Within 22 (b ⊗ r) = times 22 b (lit≤ tt) (mul-within 2 20 three32 (p .c3) (lit≤ tt) three-within w3) in
       add-within 22 (p .c1 ⊕ a ⊗ r) (b ⊗ r ⊗ r) (lit≤ tt)
-      (add-within 21 (p .c1) (a ⊗ r) (lit≤ tt) (within-more 20 21 (p .c1) (lit≤ tt) w1) i) (times 22 (b ⊗ r) (lit≤ tt) j)
+      (add-within 21 (p .c1) (a ⊗ r) (lit≤ tt) (within-more 20 21 (p .c1) (lit≤ tt) w1) i)
+      (times 22 (b ⊗ r) (lit≤ tt) j)

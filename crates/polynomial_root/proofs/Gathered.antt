@@ -1,14 +1,13 @@
--- A property of each root that a step gives is one of each answered root: over the quadratic's roots, the kept ones and
--- the walk over the spans. Assumes nothing.
-use Prim.Native.Nat.{ℕ}
-use mathlib.Core.Path.{_≡_, refl, _∙_}
+-- A property of each root that a step gives is one of each answered root: over the quadratic's roots, the kept ones
+-- and the walk over the spans. Assumes nothing.
+use mathlib.Core.Path.{_≡_, refl}
 use mathlib.Core.Bool.{Bool, true, false, cond}
 use lib.Dec.{eqb}
 use lib.Ieee.{Float}
 use borrow.Author.Tests.{eqb-true}
 use Rattle.number.specs.Number.{zero32}
 use Rattle.number.specs.Range.{between}
-use Rattle.polynomial_root.specs.Roots.{none, refused, written, push}
+use Rattle.polynomial_root.specs.Roots.{none, written, push}
 use Rattle.polynomial_root.specs.Lower.{keep, keptRoots}
 use Rattle.polynomial_root.specs.Cubic.{joined, after}
 use Rattle.polynomial_root.specs.Called.{solvedRoots}

@@ -7,8 +7,10 @@ pub mod Defined
 pub mod Spans
 pub mod Differences
 pub mod Linear
+pub mod Multiples
 pub mod Ordered
 pub mod Written
 pub mod Admitted
+pub mod Asserts
 pub mod Promised
 pub mod Corners

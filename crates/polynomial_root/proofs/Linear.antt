@@ -5,7 +5,6 @@ use native.Mathlib.Nat.{
   le-trans,
   le-of-eq,
   add-comm,
-  mul-one,
   one-mul,
   zero-mul,
   mul-pos,
@@ -17,7 +16,7 @@ use native.Mathlib.Nat.{
 use native.Mathlib.Omega.{arith}
 use mathlib.Core.Path.{_≡_, refl, sym, ap, _∙_, subst}
 use mathlib.Core.Logic.{_⊎_, inl, inr}
-use mathlib.Core.Bool.{Bool, true, false, not, _&&_, _||_, cond, false≢true}
+use mathlib.Core.Bool.{Bool, true, false, _&&_, _||_, cond, false≢true}
 use lib.IntN.{ℤ}
 use lib.Dec.{T, ltb, eqb, lt→ltb, eqb→eq, lit<, lit≤}
 use lib.Pow.{pow-pos}
@@ -52,10 +51,13 @@ within-one (fin true m e) h =
   where
     some : (a b : ℕ) → 0 < b → 0 < a + 1 * b
     some a b l = omega arith
-within-one (fin false m e) h = elim (eq-or-lt-of-le (plain (m * up e) (down e) h)) [
-  | inl q ↦ or-r (ltb (m * up e * 1) (1 * down e)) (eqb (m * up e * 1) (1 * down e) && true) (and-i (eqb (m * up e * 1) (1 * down e)) true (eq→eqb q) tt)
-  | inr l ↦ or-l (ltb (m * up e * 1) (1 * down e)) (eqb (m * up e * 1) (1 * down e) && true) (lt→ltb (m * up e * 1) (1 * down e) l)
-]
+within-one (fin false m e) h =
+    let a = m * up e * 1 in
+    let b = 1 * down e in
+    elim (eq-or-lt-of-le (plain (m * up e) (down e) h)) [
+      | inl q ↦ or-r (ltb a b) (eqb a b && true) (and-i (eqb a b) true (eq→eqb q) tt)
+      | inr l ↦ or-l (ltb a b) (eqb a b && true) (lt→ltb a b l)
+    ]
   where
     plain : (a b : ℕ) → a ≤ 1 * b → a * 1 ≤ 1 * b
     plain a b l = omega arith
@@ -65,7 +67,8 @@ zero-up : (b : Bool) (n d : ℕ) → n ≡ 0 → 0 < d → T (le zero32 (round b
 zero-up false n d z D = plus-up (round binary32 false n d) (round-plus n d)
 zero-up true n d z D =
     let q : rnd (n * L) d ≡ 0 =
-    ap (λ (x : ℕ). rnd x d) (ap (λ (x : ℕ). x * L) z ∙ zero-mul L ∙ sym (zero-mul d)) ∙ rnd-fix 0 d D (0, 0, lit< tt, refl) in
+    ap (λ (x : ℕ). rnd x d) (ap (λ (x : ℕ). x * L) z ∙ zero-mul L ∙ sym (zero-mul d))
+    ∙ rnd-fix 0 d D (0, 0, lit< tt, refl) in
     let h = round-at true n d (subst (λ (x : ℕ). x < Top) (sym q) (pow-pos 277)) in
     says-le zero32 (round binary32 true n d) 0 (rnd (n * L) d) zero-is
     (to-is-minus (round binary32 true n d) (rnd (n * L) d) q h) zero-le
@@ -91,11 +94,15 @@ module _ (s : Bool) (m : ℕ) (e : ℤ) (t : Bool) (k : ℕ) (j : ℤ) (u w : �
   N-le : N ≤ D
   N-le =
       le-of-mul-le-mul-right
-      (le-trans (le-of-eq N-is) (le-trans (mul-le-mul-right (down e * down j) more) (le-of-eq (sym D-is)))) (pow-pos 149)
+      (le-trans (le-of-eq N-is) (le-trans (mul-le-mul-right (down e * down j) more) (le-of-eq (sym D-is))))
+      (pow-pos 149)
 
   fraction-up : (0 < u → t ≡ s) → T (le zero32 (round binary32 (unlike s t) N D))
   fraction-up sign = elim (eq-zero-or-pos u) [
-    | inl z ↦ zero-up (unlike s t) N D (zero-of N L (pow-pos 149) (N-is ∙ ap (λ (x : ℕ). x * (down e * down j)) z ∙ zero-mul (down e * down j))) D-pos
+    | inl z ↦
+        zero-up (unlike s t) N D
+        (zero-of N L (pow-pos 149) (N-is ∙ ap (λ (x : ℕ). x * (down e * down j)) z ∙ zero-mul (down e * down j)))
+        D-pos
     | inr l ↦ subst (λ (b : Bool). T (le zero32 (round binary32 (unlike s b) N D))) (sym (sign l)) (own s)
   ]
     where
@@ -123,7 +130,9 @@ module _ (s : Bool) (m : ℕ) (e : ℤ) (t : Bool) (k : ℕ) (j : ℤ) (u w : �
 -- ---- the sides of zero, from the tests
 low-zero : (m : ℕ) (e : ℤ) → T (le (fin false m e) zero32) → m ≡ 0
 unfolding le lt eq ofBits
-low-zero m e h = none-of m (up e) 1 (up-pos e) (pow-pos 0) (least (m * up e * 1) (down e) (no-more (m * up e * 1) (0 * down e) h))
+low-zero m e h =
+    none-of m (up e) 1 (up-pos e) (pow-pos 0)
+    (least (m * up e * 1) (down e) (no-more (m * up e * 1) (0 * down e) h))
   where
     least : (a b : ℕ) → a ≤ 0 * b → a ≡ 0
     least a b l = omega arith

@@ -1,46 +1,15 @@
--- The roots of a quadratic are numbers, the smaller first, where c2 is not zero and the coefficients are at most 2 ^ 22
--- in size, as a slope's are (the original's `assert!(x1 <= x2)`). Assumes nothing.
-use Prim.Native.Nat.{ℕ, _+_, _*_, _^_, _≤_, _<_}
-use native.Mathlib.Nat.{
-  le-trans,
-  le-of-eq,
-  lt-of-lt-of-le,
-  lt-of-le-of-lt,
-  mul-one,
-  one-mul,
-  zero-mul,
-  mul-assoc,
-  mul-comm,
-  mul-pos,
-  eq-zero-or-pos,
-}
-use native.Mathlib.Omega.{arith}
-use mathlib.Core.Path.{_≡_, refl, sym, ap, _∙_, subst}
-use mathlib.Core.Logic.{_⊎_, inl, inr}
-use mathlib.Core.Bool.{Bool, true, false, not, _&&_, _||_, cond, Bool·beq}
-use lib.IntN.{ℤ}
-use lib.Dec.{T, eqb, eqb→eq, not-T, lit<, lit≤}
-use lib.Pow.{pow-pos}
-use lib.Ieee.{Float, fin, binary32, up, down, round, sub, mul, neg, lt, le, eq, isNan, unlike, fits, ofBits}
-use lib.Ieee.Fits.{up-pos, down-pos, and-l, sub-fits}
-use lib.Ieee.Exact.{HasValue}
+-- The roots of a quadratic are numbers, the smaller first, where c2 is not zero and the coefficients are at most
+-- 2 ^ 22 in size, as a slope's are (the original's `assert!(x1 <= x2)`). Assumes nothing.
+use Prim.Native.Nat.{ℕ}
+use mathlib.Core.Path.{_≡_, refl, sym, subst}
+use mathlib.Core.Bool.{Bool, true, false, not, _&&_, cond}
+use lib.Dec.{T, lit≤}
+use lib.Ieee.{Float, fin, binary32, neg, lt, le, eq, isNan, fits, ofBits}
+use lib.Ieee.Fits.{sub-fits}
 use lib.Ieee.Scale.{finite}
-use Rattle.number.specs.Number.{_⊕_, _⊖_, _⊗_, _⊘_, zero32, one32}
+use Rattle.number.specs.Number.{_⊕_, _⊗_, _⊘_, zero32, one32}
 use Rattle.number.specs.Root.{rootOf}
-use Rattle.number.proofs.Rounding.{rnd, rnd-mono, rnd-fix}
-use Rattle.number.proofs.Units.{L, Top, shift}
-use Rattle.number.proofs.Sums.{round-at, round-units}
-use Rattle.number.proofs.Later.{grows}
-use Rattle.number.proofs.Within.{
-  Within,
-  within-finite,
-  within-more,
-  within-units,
-  add-within,
-  sub-within,
-  mul-within,
-  not-lt-le,
-}
+use Rattle.number.proofs.Within.{Within, within-finite, within-more, add-within, sub-within, mul-within, not-lt-le}
 use Rattle.number.proofs.SquareRoot.Bounds.{root-within}
 use Rattle.polynomial_root.specs.Quadratic.{
   two32,
@@ -56,8 +25,8 @@ use Rattle.polynomial_root.specs.Quadratic.{
 use Rattle.polynomial_root.specs.declared.quadratic.Solved.{Solved}
 use Rattle.polynomial_root.specs.declared.quadratic.Solved.the-variants.{Neither, Both}
 use Rattle.polynomial_root.proofs.Orders.{test-true, lt-le}
-use Rattle.polynomial_root.proofs.Defined.{zero-eq, quotient-no-nan, two-within}
-use Rattle.polynomial_root.proofs.Differences.{zero-of, pos-of, units-of, no-overflow}
+use Rattle.polynomial_root.proofs.Multiples.{twice-some}
+use Rattle.polynomial_root.proofs.Defined.{quotient-no-nan, two-within}
 
 -- two numbers in order
 pub record Ordered (a b : Float) : Type 0 where
@@ -69,48 +38,9 @@ abbrev pub InOrder : Solved → Type 0
 InOrder Neither = Unit
 InOrder (Both a b) = Ordered a b
 
--- ---- twice a number that is not zero is not zero
-not-so : (b : Bool) → (T b → ⊥) → b ≡ false
-not-so true h = absurd (h tt)
-not-so false h = refl
-
 no-right : (b : Bool) {c : Bool} → c ≡ false → (b && c) ≡ false
 no-right true h = h
 no-right false h = refl
-
-some-eq : (x : Float) (s : Bool) (w : ℕ) → 0 < w → HasValue x s w L → eq x zero32 ≡ false
-unfolding eq ofBits
-some-eq (fin t m e) s w l (same, q) = not-so (eq (fin t m e) zero32) none
-  where
-    none : T (eq (fin t m e) zero32) → ⊥
-    none h =
-        clash (m * up e) (down e) (eqb→eq (m * up e * 1) (0 * down e) (and-l (eqb (m * up e * 1) (0 * down e)) (Bool·beq t false || eqb (m * up e * 1) 0) h))
-        (pos-of (m * up e) L w (down e) l (down-pos e) q)
-      where
-        clash : (a b : ℕ) → a * 1 ≡ 0 * b → 0 < a → ⊥
-        clash a b z l = omega arith
-
-twice-some : (c : Float) → T (fits binary32 c) → Within 22 c → eq c zero32 ≡ false → eq (two32 ⊗ c) zero32 ≡ false
-unfolding mul ofBits
-twice-some (fin s m e) f w n =
-    let p = units-of s m e f in
-    let u = m * 2 ^ shift e in
-    let b : u ≤ 2 ^ 23 * L =
-    within-units 23 (fin false m e) u (p .is) (within-more 22 23 (fin false m e) (lit≤ tt) w) in
-    let q = round-units (2 * (m * up e)) (1 * down e) (u + u) (mul-pos (pow-pos 0) (down-pos e)) (twice (m * up e) L u (down e) (p .is)) in
-    let x = round binary32 (unlike false s) (2 * (m * up e)) (1 * down e) in
-    some-eq x (unlike false s) (rnd (2 * (m * up e) * L) (1 * down e))
-    (subst (λ (k : ℕ). 0 < k) (sym q) (lt-of-lt-of-le (some u refl) (grows u u (p .rep))))
-    (round-at (unlike false s) (2 * (m * up e)) (1 * down e) (subst (λ (k : ℕ). k < Top) (sym q) (no-overflow u u b b)))
-  where
-    twice : (a l u d : ℕ) → a * l ≡ u * d → 2 * a * l ≡ (u + u) * (1 * d)
-    twice a l u d h = omega arith
-
-    some : (u : ℕ) → u ≡ m * 2 ^ shift e → 0 < u
-    some u h = elim (eq-zero-or-pos u) [
-      | inl z ↦ absurd (subst T n (zero-eq s m e (zero-of m (2 ^ shift e) (pow-pos (shift e)) (sym h ∙ z))))
-      | inr l ↦ l
-    ]
 
 -- ---- the sizes inside
 four-within : Within 2 four32
@@ -175,7 +105,11 @@ module _ (c0 c1 c2 : Float) (f : T (fits binary32 c2)) (w0 : Within 22 c0) (w1 :
         where
           pick : (c : Bool) → lt a b ≡ c → InOrder (cond c (Both a b) (Both b a))
           pick true h = record { first = p; second = q; order = lt-le a b (test-true h) }
-          pick false h = record { first = q; second = p; order = not-lt-le a b p q (subst (λ (c : Bool). T (not c)) (sym h) tt) }
+          pick false h = record {
+            first = q;
+            second = p;
+            order = not-lt-le a b p q (subst (λ (c : Bool). T (not c)) (sym h) tt);
+          }
 
       go : (b : Bool) → InOrder (cond b Neither (inOrder (other c0 c2 s) (direct c2 s)))
       go true = tt

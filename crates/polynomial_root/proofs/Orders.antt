@@ -1,31 +1,22 @@
 -- The order of f32 as the root finders use it: what lies in 0..t, held there by the clamp, and how large it can be.
 -- Assumes nothing.
-use Prim.Native.Nat.{ℕ, zero, suc, _+_, _*_, _^_, _≤_, _<_}
+use Prim.Native.Nat.{ℕ, _*_, _^_, _≤_, _<_}
 use native.Mathlib.Nat.{
   le-trans,
   le-of-eq,
   le-of-lt,
-  mul-one,
-  one-mul,
   zero-mul,
-  mul-comm,
-  mul-assoc,
   mul-right-comm,
-  mul-pos,
   mul-le-mul-right,
   le-of-mul-le-mul-right,
-  eq-zero-or-pos,
 }
 use native.Mathlib.Omega.{arith}
-use mathlib.Core.Path.{_≡_, refl, sym, ap, _∙_, subst}
-use mathlib.Core.Logic.{_⊎_, inl, inr}
+use mathlib.Core.Path.{_≡_, sym, _∙_, subst}
 use mathlib.Core.Bool.{Bool, true, false, not, _&&_, _||_, cond, Bool·beq}
 use lib.Dec.{T, ltb, eqb, ltb→lt, eqb→eq, eqb-refl}
-use lib.Pow.{pow-pos}
-use lib.Ieee.{Float, nan, inf, fin, binary32, up, down, lt, le, eq, isNan, below, level, ofBits}
-use lib.Ieee.Fits.{up-pos, down-pos, and-i, and-l, and-r}
-use lib.Ieee.Scale.{finite}
-use Rattle.number.specs.Number.{zero32, one32, clamp}
+use lib.Ieee.{Float, nan, inf, fin, up, down, lt, le, eq, isNan, level, ofBits}
+use lib.Ieee.Fits.{down-pos, and-i, and-l, and-r}
+use Rattle.number.specs.Number.{zero32, clamp}
 use Rattle.number.specs.Range.{between}
 use Rattle.number.proofs.Within.{Within, or-l, or-r, not-lt-le}
 use Rattle.number.proofs.NoNan.{no-nan-lt}
@@ -55,7 +46,8 @@ le-self (fin s m e) h =
 -- ---- the range 0..t
 module _ (t : Float) (above : T (lt zero32 t)) where
   pub zero-in-range : T (between zero32 t zero32)
-  zero-in-range = and-i (le zero32 zero32) (le zero32 t) (le-self zero32 (no-nan-lt zero32 t above .0)) (lt-le zero32 t above)
+  zero-in-range =
+      and-i (le zero32 zero32) (le zero32 t) (le-self zero32 (no-nan-lt zero32 t above .0)) (lt-le zero32 t above)
 
   pub end-in-range : T (between zero32 t t)
   end-in-range = and-i (le zero32 t) (le t t) (lt-le zero32 t above) (le-self t (no-nan-lt zero32 t above .1))

@@ -3,15 +3,12 @@ use Prim.Native.Nat.{ℕ, zero, suc, _+_, _≤_, _<_, zero-le}
 use native.Mathlib.Omega.{arith}
 use native.Mathlib.Decide.{decLt}
 use mathlib.Core.Path.{_≡_, refl, sym, _∙_, subst}
-use mathlib.Core.Logic.{_⊎_, inl, inr}
-use mathlib.Core.Bool.{true, false}
-use lib.Dec.{ltb}
 use lib.ListN.{length, getD, set, length-set}
 use lib.Seq.{getD-set-same, getD-set-other}
 use lib.Ieee.{Float, nan}
 use borrow.Author.Tests.{le-ltb, lt-ltb}
 use Rattle.number.specs.Number.{zero32}
-use Rattle.polynomial_root.specs.Roots.{none, refused, written, push}
+use Rattle.polynomial_root.specs.Roots.{refused, written, push}
 use Rattle.polynomial_root.specs.Promises.{Tidy, Each}
 use Rattle.polynomial_root.specs.declared.answer.Roots.{Roots}
 

@@ -3,17 +3,16 @@
 -- neither. Assumes nothing.
 use Prim.Native.Nat.{ℕ}
 use native.Mathlib.Omega.{arith}
-use mathlib.Core.Path.{_≡_, refl, sym, ap, _∙_, subst}
-use mathlib.Core.Logic.{_⊎_, inl, inr}
-use mathlib.Core.Bool.{Bool, true, false, not, cond, _&&_, _||_}
+use mathlib.Core.Path.{_≡_, refl}
+use mathlib.Core.Logic.{inl, inr}
+use mathlib.Core.Bool.{Bool, true, false, not, cond, _&&_}
 use mathlib.Core.List.{[], _∷_}
 use lib.Dec.{T, lit≤}
-use lib.Ieee.{Float, nan, binary32, neg, lt, le, eq, isNan, fits, ofBits}
-use lib.Ieee.Fits.{and-i, and-l, and-r, add-fits}
+use lib.Ieee.{Float, binary32, lt, eq, isNan, fits, ofBits}
+use lib.Ieee.Fits.{add-fits}
 use Rattle.number.specs.Number.{_⊖_, _⊗_, _⊘_, zero32, one32}
-use Rattle.number.specs.Range.{between, inLimit, aboveZeroToOne, zeroToLimit}
+use Rattle.number.specs.Range.{between}
 use Rattle.number.proofs.Within.{Within, within-more}
-use Rattle.number.proofs.Signs.{within-tests}
 use Rattle.polynomial_root.specs.Roots.{none, refused, written, push}
 use Rattle.polynomial_root.specs.Quadratic.{two32, solved}
 use Rattle.polynomial_root.specs.Newton.{three32, valueAt}
@@ -28,20 +27,14 @@ use Rattle.polynomial_root.specs.Lower.{
   lowerRoots,
 }
 use Rattle.polynomial_root.specs.Cubic.{spanRoots, cubicRoots}
-use Rattle.polynomial_root.specs.Admission.{
-  finiteQuadratic,
-  allowedQuadratic,
-  finiteCubic,
-  allowedCubic,
-  admitted,
-}
+use Rattle.polynomial_root.specs.Admission.{finiteQuadratic, allowedQuadratic, finiteCubic, allowedCubic}
 use Rattle.polynomial_root.specs.Called.{solvedRoots, quadraticRoot, cubicRootsInRange}
-use Rattle.polynomial_root.specs.Promises.{Tidy, NoNan, InRange, NoneOrTwo, reach}
+use Rattle.polynomial_root.specs.Promises.{NoneOrTwo, reach}
 use Rattle.polynomial_root.specs.declared.answer.Roots.{Roots}
 use Rattle.polynomial_root.specs.declared.newton.Cubic.{Cubic}
 use Rattle.polynomial_root.specs.declared.quadratic.Solved.{Solved}
 use Rattle.polynomial_root.specs.declared.quadratic.Solved.the-variants.{Neither, Both}
-use Rattle.polynomial_root.proofs.Orders.{test-true, lt-le, zero-in-range, written-in-range, within-range}
+use Rattle.polynomial_root.proofs.Orders.{test-true, zero-in-range, written-in-range}
 use Rattle.polynomial_root.proofs.Defined.{value-within}
 use Rattle.polynomial_root.proofs.Places.{Holds, refused-holds, push-holds}
 use Rattle.polynomial_root.proofs.Gathered.{Solves, solved-holds, kept-holds}
@@ -122,8 +115,8 @@ pub cubic-promises : (p : Cubic) (t epsilon : Float) → T (fits binary32 (p .c0
     → Holds (In (reach p t)) (cubicRootsInRange p t epsilon)
 unfolding cubicRootsInRange
 cubic-promises p t epsilon f =
-    admitted-keeps (Holds (In (reach p t))) (finiteCubic p t epsilon) (allowedCubic p t epsilon) (cubicRoots p t epsilon)
-    (refused-holds (In (reach p t)))
+    admitted-keeps (Holds (In (reach p t))) (finiteCubic p t epsilon) (allowedCubic p t epsilon)
+    (cubicRoots p t epsilon) (refused-holds (In (reach p t)))
     (λ a. cubic-holds p t epsilon (allowed-cubic p t epsilon a) f)
 
 -- ---- a quadratic's roots
@@ -152,7 +145,8 @@ solved-quadratic s h = record { numbers = solved-holds Number s (solves s h); tw
 
     two : (s : Solved) → InOrder s → NoneOrTwo (solvedRoots s)
     two Neither h = unfold solvedRoots in none-two 0
-    two (Both a b) h = unfold solvedRoots push in record { number = inr refl; order = λ e. written-order a b (h .order) }
+    two (Both a b) h =
+        unfold solvedRoots push in record { number = inr refl; order = λ e. written-order a b (h .order) }
 
 pub quadratic-promises : (c0 c1 c2 : Float) → T (fits binary32 c2) → Quadratic (quadraticRoot c0 c1 c2)
 unfolding quadraticRoot

@@ -1,20 +1,18 @@
--- Newton's steps and the spans stay in 0..t: what they give lies there, and no step is NaN. The ends of the middle span
--- are in order. Assumes nothing.
+-- Newton's steps and the spans stay in 0..t: what they give lies there, and no step is NaN. Assumes nothing.
 use Prim.Native.Nat.{ℕ, zero, suc}
-use mathlib.Core.Path.{_≡_, refl, sym, subst}
-use mathlib.Core.Bool.{Bool, true, false, not, cond, _&&_, _||_}
+use mathlib.Core.Path.{_≡_, refl}
+use mathlib.Core.Bool.{Bool, true, false, cond, _&&_}
 use lib.Dec.{T}
-use lib.Ieee.{Float, lt, le, eq, isNan}
-use lib.Ieee.Fits.{and-i, and-l, and-r}
+use lib.Ieee.{Float, lt, le, eq}
+use lib.Ieee.Fits.{and-i, and-l}
 use Rattle.number.specs.Number.{_⊖_, _⊘_, zero32, size, smaller, larger}
 use Rattle.number.specs.Range.{between}
 use Rattle.number.proofs.Within.{Within, within-finite}
 use Rattle.polynomial_root.specs.Roots.{none}
 use Rattle.polynomial_root.specs.Newton.{valueAt, slopeAt, stepped, flat, descend}
-use Rattle.polynomial_root.specs.Spans.{endAt, oneSided, bothZero, secant, started, point, spanRoot}
+use Rattle.polynomial_root.specs.Spans.{endAt, oneSided, bothZero, secant, started, spanRoot}
 use Rattle.polynomial_root.specs.Cubic.{start, firstSpan, middleSpan, lastSpan, spanRoots, after}
 use Rattle.polynomial_root.specs.declared.newton.Cubic.{Cubic}
-use Rattle.polynomial_root.specs.declared.newton.Found.{Found}
 use Rattle.polynomial_root.specs.declared.newton.Found.the-variants.{Root, Nothing, Refused}
 use Rattle.polynomial_root.specs.declared.quadratic.Solved.{Solved}
 use Rattle.polynomial_root.specs.declared.quadratic.Solved.the-variants.{Neither, Both}
@@ -39,18 +37,6 @@ pub record Allowed (p : Cubic) (t : Float) : Type 0 where
   pub w3 : Within 20 (p .c3)
   pub above : T (lt zero32 t)
   pub small : Within 0 t
-
--- the middle span's ends are in order, where the slope's roots are
-pub middle-ordered : (t e0 e1 : Float) → T (lt zero32 t) → T (le e0 e1) → T (le e0 t) → T (le zero32 e1)
-    → T (le (larger zero32 e0) (smaller t e1))
-unfolding larger smaller
-middle-ordered t e0 e1 above order low high = go (lt zero32 e0) (lt e1 t)
-  where
-    go : (a b : Bool) → T (le (cond a e0 zero32) (cond b e1 t))
-    go true true = order
-    go true false = low
-    go false true = high
-    go false false = lt-le zero32 t above
 
 module _ (p : Cubic) (t epsilon : Float) (h : Allowed p t) where
   abbrev In : Float → Type 0
@@ -146,5 +132,6 @@ module _ (p : Cubic) (t epsilon : Float) (h : Allowed p t) where
       let b = after a (middleSpan p t epsilon e0 e1) in
       after-holds In b (lastSpan p t epsilon e1)
       (after-holds In a (middleSpan p t epsilon e0 e1)
-      (after-holds In none (firstSpan p t epsilon e0) (refused-holds In 0) (first-in-range e0)) (middle-in-range e0 e1))
+      (after-holds In none (firstSpan p t epsilon e0) (refused-holds In 0) (first-in-range e0))
+      (middle-in-range e0 e1))
       (last-in-range e1)

@@ -3,13 +3,13 @@
 use Prim.Native.Nat.{ℕ, _+_, _*_, _≤_, _<_}
 use native.Mathlib.Nat.{le-of-eq, le-of-lt, zero-mul, mul-pos, eq-zero-or-pos}
 use native.Mathlib.Omega.{arith}
-use mathlib.Core.Path.{_≡_, refl, sym, ap, _∙_, subst}
-use mathlib.Core.Logic.{_⊎_, inl, inr}
+use mathlib.Core.Path.{_≡_, refl, sym, _∙_}
+use mathlib.Core.Logic.{inl, inr}
 use mathlib.Core.Bool.{Bool, true, false, not, cond, _&&_, _||_, Bool·beq}
 use lib.IntN.{ℤ}
 use lib.Dec.{T, ltb, eqb, ltb→lt, lt→ltb, eqb→eq}
 use lib.Pow.{pow-pos}
-use lib.Ieee.{Float, nan, inf, fin, binary32, up, down, lt, le, eq, isNan, ofBits}
+use lib.Ieee.{Float, inf, fin, up, down, lt, le, eq, isNan, ofBits}
 use lib.Ieee.Fits.{up-pos, down-pos, and-i, and-l, eq→eqb}
 use Rattle.number.specs.Number.{zero32}
 use Rattle.number.proofs.Units.{none-of, no-size}
@@ -32,7 +32,7 @@ written-number r h = go (eq r zero32)
     go false = h
 
 -- ---- what is not above, or not below, a zero of either sign
-eq-zero : (s : Bool) (m : ℕ) (e : ℤ) → T (eq (fin s m e) zero32) → m ≡ 0
+pub eq-zero : (s : Bool) (m : ℕ) (e : ℤ) → T (eq (fin s m e) zero32) → m ≡ 0
 unfolding eq ofBits
 eq-zero s m e h =
     none-of m (up e) 1 (up-pos e) (pow-pos 0)
@@ -96,7 +96,8 @@ zero-down (fin false m e) (fin false n d) z h =
     let A = m * up e * down d in
     let B = n * up d * down e in
     zero-low false m e
-    (gone m (up e) (down d) B (up-pos e) (down-pos d) (no-more A B h) (no-size n (up d) (down e) (eq-zero false n d z)))
+    (gone m (up e) (down d) B (up-pos e) (down-pos d) (no-more A B h)
+    (no-size n (up d) (down e) (eq-zero false n d z)))
 zero-down (fin false m e) (fin true n d) z h =
     let A = m * up e * down d in
     let B = n * up d * down e in
