@@ -69,7 +69,8 @@ module _ (s : Bool) (m : ℕ) (e : ℤ) (f : T (fits binary32 (fin s m e))) (w :
       more : (u l : ℕ) → u ≤ 2 ^ 22 * l → u ≤ 2 ^ 23 * l
       more u l h = omega arith
 
-pub twice-some : (c : Float) → T (fits binary32 c) → Within 22 c → eq c zero32 ≡ false → eq (two32 ⊗ c) zero32 ≡ false
+pub twice-some : (c : Float) → T (fits binary32 c) → Within 22 c → eq c zero32 ≡ false
+    → eq (two32 ⊗ c) zero32 ≡ false
 unfolding mul ofBits
 twice-some (fin s m e) f w n =
     multiple-some s m e f w n 2 (m * 2 ^ shift e) (twice (m * up e) L (m * 2 ^ shift e) (down e) (units-of s m e f .is))
@@ -81,7 +82,8 @@ twice-some (fin s m e) f w n =
     more : (u l : ℕ) → u ≤ 2 ^ 22 * l → u ≤ 2 ^ 23 * l
     more u l h = omega arith
 
-pub thrice-some : (c : Float) → T (fits binary32 c) → Within 22 c → eq c zero32 ≡ false → eq (three32 ⊗ c) zero32 ≡ false
+pub thrice-some : (c : Float) → T (fits binary32 c) → Within 22 c → eq c zero32 ≡ false
+    → eq (three32 ⊗ c) zero32 ≡ false
 unfolding mul ofBits
 thrice-some (fin s m e) f w n =
     let u = m * 2 ^ shift e in
