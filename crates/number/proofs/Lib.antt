@@ -1,19 +1,24 @@
 -- The laws of f32 that the other crates cite.
+pub mod Numbers
 pub mod Rounding
 pub mod Units
 pub mod Sums
 pub mod Products
+pub mod Plus
 pub mod Middle
 pub mod Patterns
 pub mod NoNan
 pub mod Neighbours
 pub mod Window
 pub mod Halvings
+pub mod Comparing
+pub mod Choice
 pub mod Within
 pub mod Signs
 pub mod Later
 pub mod Sizes
 pub mod Finite
+pub mod Ranges
 pub mod NextUp
 pub mod SquareRoot
 pub mod Corners

@@ -35,7 +35,7 @@ pub no-nan-between : (a x b : Float) → (le a x && lt x b) ≡ true → T (not 
 no-nan-between a x b h = no-nan-le a x (and-l (le a x) (lt x b) (subst T (sym h) tt)) .1
 
 -- a pattern that is no NaN's
-pub no-nan-of : (b : ℕ) → b % 2147483648 ≤ 2139095040 → T (not (isNan (ofBits binary32 b)))
+no-nan-of : (b : ℕ) → b % 2147483648 ≤ 2139095040 → T (not (isNan (ofBits binary32 b)))
 no-nan-of b h = subst (λ (t : Bool). T (not t)) (nanBits-is binary32 b) (no-nan-bits b h)
 
 -- and an f32 of such a pattern can be cast to an f64

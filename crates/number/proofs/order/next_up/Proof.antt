@@ -1,12 +1,9 @@
 -- `number::order::next_up` meets its contract: NaN, plus infinity, either zero, then the next pattern by the sign.
 -- Assumes nothing.
-use mathlib.Core.Path.{_≡_, sym, ap, subst}
-use Prim.Native.Nat.{ℕ, _%_, _≤_}
-use native.Mathlib.Omega.{arith}
+use mathlib.Core.Path.{sym, subst}
 use borrow.Author.Needs.{needs}
-use mathlib.Core.Bool.{not}
 use lib.Dec.{T}
-use lib.Ieee.{binary32, fits, nanBits, toBits}
+use lib.Ieee.{binary32, fits, nanBits}
 use Rattle.number.proofs.NoNan.{no-nan-ne}
 use Rattle.number.proofs.NextUp.{next-no-nan, last-no-nan, up-nan, up-top, up-zero, up-plus, up-minus}
 use Rattle.number.proofs.order.next_up.Statement.{statement}
@@ -37,7 +34,8 @@ add-result c = search needs
 float-from-bits-result-2 : tie.Need-float-from-bits-result-2
 float-from-bits-result-2 c =
     let s = c .before .before .before .before in
-    next-no-nan (s .args .x) (held s) (no-nan-ne (s .args .x) (c .before .before .before .if1 .left)) (c .before .before .if2 .left) (c .if4 .taken)
+    next-no-nan (s .args .x) (held s) (no-nan-ne (s .args .x) (c .before .before .before .if1 .left))
+    (c .before .before .if2 .left) (c .if4 .taken)
 
 sub-result : tie.Need-sub-result
 sub-result c = search needs
@@ -45,17 +43,20 @@ sub-result c = search needs
 float-from-bits-result-3 : tie.Need-float-from-bits-result-3
 float-from-bits-result-3 c =
     let s = c .before .before .before .before in
-    last-no-nan (s .args .x) (held s) (no-nan-ne (s .args .x) (c .before .before .before .if1 .left)) (c .before .if3 .left) (c .if4 .left)
+    last-no-nan (s .args .x) (held s) (no-nan-ne (s .args .x) (c .before .before .before .if1 .left))
+    (c .before .if3 .left) (c .if4 .left)
 
 returns-4 : tie.Need-returns-4
 returns-4 c =
     let s = c .before .before .before .before in
-    up-plus (s .args .x) (no-nan-ne (s .args .x) (c .before .before .before .if1 .left)) (c .before .before .if2 .left) (c .before .if3 .left) (c .if4 .taken)
+    up-plus (s .args .x) (no-nan-ne (s .args .x) (c .before .before .before .if1 .left))
+    (c .before .before .if2 .left) (c .before .if3 .left) (c .if4 .taken)
 
 returns-5 : tie.Need-returns-5
 returns-5 c =
     let s = c .before .before .before .before in
-    up-minus (s .args .x) (held s) (no-nan-ne (s .args .x) (c .before .before .before .if1 .left)) (c .before .if3 .left) (c .if4 .left)
+    up-minus (s .args .x) (held s) (no-nan-ne (s .args .x) (c .before .before .before .if1 .left))
+    (c .before .if3 .left) (c .if4 .left)
 
 pub next-up-spec : {M : Type 1} → statement M
 next-up-spec =
