@@ -10,15 +10,15 @@ use lib.Ieee.{Float, fin, binary32, up, down, lt, le, eq, fits, ofBits}
 use lib.Ieee.Fits.{down-pos, mul-fits}
 use Rattle.number.specs.Number.{_⊗_, zero32, size, smaller, larger}
 use Rattle.number.proofs.Within.{Within, within-more, mul-within}
+use Rattle.number.proofs.Comparing.{lt-le}
 use Rattle.polynomial_root.specs.Quadratic.{two32, solved}
 use Rattle.polynomial_root.specs.Newton.{three32}
 use Rattle.polynomial_root.specs.Lower.{vanishes}
 use Rattle.polynomial_root.specs.declared.newton.Cubic.{Cubic}
 use Rattle.polynomial_root.specs.declared.quadratic.Solved.the-variants.{Both}
-use Rattle.polynomial_root.proofs.Orders.{lt-le}
 use Rattle.polynomial_root.proofs.Defined.{two-within, three-within}
 use Rattle.polynomial_root.proofs.Multiples.{not-so, thrice-some}
-use Rattle.polynomial_root.proofs.Written.{eq-zero}
+use Rattle.polynomial_root.proofs.Zeros.{eq-zero}
 use Rattle.polynomial_root.proofs.Spans.{Allowed}
 use Rattle.polynomial_root.proofs.Ordered.{InOrder, solved-ordered}
 

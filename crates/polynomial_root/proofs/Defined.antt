@@ -3,28 +3,20 @@
 use Prim.Native.Nat.{ℕ, suc, _+_, _-_, _*_, _≤_}
 use native.Mathlib.Nat.{add-zero}
 use native.Mathlib.Omega.{arith}
-use mathlib.Core.Path.{_≡_, ap, subst}
-use mathlib.Core.Bool.{Bool, true, false, not, _&&_, _||_, cond, Bool·beq}
-use lib.IntN.{ℤ}
+use mathlib.Core.Path.{_≡_, subst}
+use mathlib.Core.Bool.{Bool, true, false, not, _&&_, cond, Bool·beq}
 use lib.Dec.{T, ltb, eqb, eqb→eq, lit≤}
 use lib.Ieee.{Float, nan, inf, fin, binary32, up, down, round, sum, add, sub, div, neg, eq, isNan, unlike, ofBits}
-use lib.Ieee.Fits.{and-i, eq→eqb}
+use lib.Ieee.Fits.{and-i}
 use lib.Ieee.Scale.{finite}
 use Rattle.number.specs.Number.{_⊕_, _⊖_, _⊗_, _⊘_, zero32}
-use Rattle.number.proofs.Within.{Within, within-more, add-within, mul-within, round-no-nan, or-r}
+use Rattle.number.proofs.Within.{Within, within-more, add-within, mul-within, round-no-nan}
 use Rattle.polynomial_root.specs.Quadratic.{two32}
 use Rattle.polynomial_root.specs.Newton.{three32, valueAt, slopeAt}
 use Rattle.polynomial_root.specs.declared.newton.Cubic.{Cubic}
+use Rattle.polynomial_root.proofs.Zeros.{zero-eq}
 
 -- ---- quotients
-pub zero-eq : (s : Bool) (m : ℕ) (e : ℤ) → m ≡ 0 → T (eq (fin s m e) zero32)
-unfolding eq ofBits
-zero-eq s m e z =
-    let a : m * up e * 1 ≡ 0 = omega (arith, ap (λ (x : ℕ). x * up e) z) in
-    let b : m * up e * 1 ≡ 0 * down e = omega arith in
-    and-i (eqb (m * up e * 1) (0 * down e)) (Bool·beq s false || eqb (m * up e * 1) 0) (eq→eqb b)
-    (or-r (Bool·beq s false) (eqb (m * up e * 1) 0) (eq→eqb a))
-
 pub quotient-no-nan : (x y : Float) → T (finite x) → T (finite y) → (eq x zero32 && eq y zero32) ≡ false
     → T (not (isNan (x ⊘ y)))
 unfolding div

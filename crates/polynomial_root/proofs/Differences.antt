@@ -14,8 +14,9 @@ use lib.Ieee.Fits.{down-pos}
 use lib.Ieee.Exact.{HasValue}
 use Rattle.number.specs.Number.{_⊖_}
 use Rattle.number.proofs.Rounding.{rnd, rnd-mono, rnd-fix}
-use Rattle.number.proofs.Units.{L, Top, Unit32, shift, left, right, fin-false, no-size, none-of}
-use Rattle.number.proofs.Sums.{round-at, round-units}
+use Rattle.number.proofs.Units.Compared.{L, left, right, no-size}
+use Rattle.number.proofs.Units.{Top, Unit32, shift, fin-false, none-of}
+use Rattle.number.proofs.Sums.Rounded.{round-at, round-units}
 use Rattle.number.proofs.Sizes.{fits-plus}
 
 -- ---- the sum of a number and one on the other side of zero, or of a number and zero

@@ -2,6 +2,7 @@
 pub mod Steps
 pub mod Places
 pub mod Gathered
+pub mod Zeros
 pub mod Orders
 pub mod Defined
 pub mod Spans

@@ -21,26 +21,23 @@ use lib.IntN.{ℤ}
 use lib.Dec.{T, ltb, eqb, lt→ltb, eqb→eq, lit<, lit≤}
 use lib.Pow.{pow-pos}
 use lib.Ieee.{Float, nan, inf, fin, binary32, up, down, round, div, lt, le, eq, unlike, fits, ofBits}
-use lib.Ieee.Fits.{up-pos, down-pos, and-i, and-l, and-r, eq→eqb}
+use lib.Ieee.Fits.{down-pos, and-i, and-l, and-r, eq→eqb}
 use lib.Ieee.Exact.{HasValue}
 use Rattle.number.specs.Number.{_⊖_, _⊘_, zero32, one32}
 use Rattle.number.specs.Range.{between}
 use Rattle.number.proofs.Rounding.{rnd, rnd-fix}
-use Rattle.number.proofs.Units.{L, Top, Is, Unit32, shift, left, right, no-size, none-of, says-le}
-use Rattle.number.proofs.Sums.{round-at, to-is-minus}
+use Rattle.number.proofs.Units.Compared.{L, left, right, no-size, says-le}
+use Rattle.number.proofs.Units.{zero-is, Top, Unit32, shift}
+use Rattle.number.proofs.Sums.Rounded.{round-at, to-is-minus}
 use Rattle.number.proofs.Later.{grows}
-use Rattle.number.proofs.Within.{Within, within-more, within-units, round-within, or-l, or-r}
-use Rattle.number.proofs.Halvings.{round-plus}
+use Rattle.number.proofs.Within.{Within, within-more, within-units, round-within}
+use Rattle.number.proofs.Comparing.{or-l, or-r}
+use Rattle.number.proofs.Plus.{round-plus}
 use Rattle.number.proofs.Signs.{plus-up}
 use Rattle.polynomial_root.specs.Spans.{bothZero}
 use Rattle.polynomial_root.specs.Lower.{opposite}
-use Rattle.polynomial_root.proofs.Orders.{no-more}
-use Rattle.polynomial_root.proofs.Defined.{zero-eq}
+use Rattle.polynomial_root.proofs.Zeros.{zero-eq, low-zero, high-zero}
 use Rattle.polynomial_root.proofs.Differences.{zero-of, pos-of, units-of, no-overflow, Sides, difference}
-
-zero-is : Is zero32 0
-unfolding ofBits
-zero-is = refl
 
 -- ---- the quotient of a by the difference
 pub within-one : (x : Float) → Within 0 x → T (le x one32)
@@ -128,22 +125,6 @@ module _ (s : Bool) (m : ℕ) (e : ℤ) (t : Bool) (k : ℕ) (j : ℤ) (u w : �
           (round-within 0 (unlike s t) N D D-pos (lit≤ tt) (le-trans N-le (le-of-eq (sym (one-mul D))))))
 
 -- ---- the sides of zero, from the tests
-low-zero : (m : ℕ) (e : ℤ) → T (le (fin false m e) zero32) → m ≡ 0
-unfolding le lt eq ofBits
-low-zero m e h =
-    none-of m (up e) 1 (up-pos e) (pow-pos 0)
-    (least (m * up e * 1) (down e) (no-more (m * up e * 1) (0 * down e) h))
-  where
-    least : (a b : ℕ) → a ≤ 0 * b → a ≡ 0
-    least a b l = omega arith
-
-high-zero : (m : ℕ) (e : ℤ) → T (le zero32 (fin true m e)) → m ≡ 0
-unfolding le lt eq ofBits
-high-zero m e h =
-    none-of m (up e) 1 (up-pos e) (pow-pos 0)
-    (sym (eqb→eq (0 * down e) (m * up e * 1) (and-l (eqb (0 * down e) (m * up e * 1)) (eqb (0 * down e) 0) h))
-    ∙ zero-mul (down e))
-
 either : (p q : Bool) → (p || q) ≡ true → T p ⊎ T q
 either true q h = inl tt
 either false true h = inr tt

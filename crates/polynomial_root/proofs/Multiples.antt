@@ -14,13 +14,14 @@ use lib.Ieee.Fits.{down-pos, and-l}
 use lib.Ieee.Exact.{HasValue}
 use Rattle.number.specs.Number.{_⊗_, zero32}
 use Rattle.number.proofs.Rounding.{rnd}
-use Rattle.number.proofs.Units.{L, Top, shift}
-use Rattle.number.proofs.Sums.{round-at, round-units}
+use Rattle.number.proofs.Units.Compared.{L}
+use Rattle.number.proofs.Units.{Top, shift}
+use Rattle.number.proofs.Sums.Rounded.{round-at, round-units}
 use Rattle.number.proofs.Later.{grows}
 use Rattle.number.proofs.Within.{Within, within-units}
 use Rattle.polynomial_root.specs.Quadratic.{two32}
 use Rattle.polynomial_root.specs.Newton.{three32}
-use Rattle.polynomial_root.proofs.Defined.{zero-eq}
+use Rattle.polynomial_root.proofs.Zeros.{zero-eq}
 use Rattle.polynomial_root.proofs.Differences.{zero-of, pos-of, units-of, no-overflow}
 
 pub not-so : (b : Bool) → (T b → ⊥) → b ≡ false
@@ -73,8 +74,9 @@ pub twice-some : (c : Float) → T (fits binary32 c) → Within 22 c → eq c ze
     → eq (two32 ⊗ c) zero32 ≡ false
 unfolding mul ofBits
 twice-some (fin s m e) f w n =
-    multiple-some s m e f w n 2 (m * 2 ^ shift e) (twice (m * up e) L (m * 2 ^ shift e) (down e) (units-of s m e f .is))
-    (more (m * 2 ^ shift e) L (bound s m e f w n))
+    let u = m * 2 ^ shift e in
+    multiple-some s m e f w n 2 u (twice (m * up e) L u (down e) (units-of s m e f .is))
+    (more u L (bound s m e f w n))
   where
     twice : (a l u d : ℕ) → a * l ≡ u * d → 2 * a * l ≡ (u + u) * (1 * d)
     twice a l u d h = omega arith

@@ -9,7 +9,8 @@ use lib.Ieee.Fits.{sub-fits}
 use lib.Ieee.Scale.{finite}
 use Rattle.number.specs.Number.{_⊕_, _⊗_, _⊘_, zero32, one32}
 use Rattle.number.specs.Root.{rootOf}
-use Rattle.number.proofs.Within.{Within, within-finite, within-more, add-within, sub-within, mul-within, not-lt-le}
+use Rattle.number.proofs.Within.{Within, within-finite, within-more, add-within, sub-within, mul-within}
+use Rattle.number.proofs.Comparing.{not-lt-le, lt-le}
 use Rattle.number.proofs.SquareRoot.Bounds.{root-within}
 use Rattle.polynomial_root.specs.Quadratic.{
   two32,
@@ -24,7 +25,7 @@ use Rattle.polynomial_root.specs.Quadratic.{
 }
 use Rattle.polynomial_root.specs.declared.quadratic.Solved.{Solved}
 use Rattle.polynomial_root.specs.declared.quadratic.Solved.the-variants.{Neither, Both}
-use Rattle.polynomial_root.proofs.Orders.{test-true, lt-le}
+use Rattle.polynomial_root.proofs.Orders.{test-true}
 use Rattle.polynomial_root.proofs.Multiples.{twice-some}
 use Rattle.polynomial_root.proofs.Defined.{quotient-no-nan, two-within}
 

@@ -1,47 +1,26 @@
 -- The order of f32 as the root finders use it: what lies in 0..t, held there by the clamp, and how large it can be.
 -- Assumes nothing.
 use Prim.Native.Nat.{ℕ, _*_, _^_, _≤_, _<_}
-use native.Mathlib.Nat.{
-  le-trans,
-  le-of-eq,
-  le-of-lt,
-  zero-mul,
-  mul-right-comm,
-  mul-le-mul-right,
-  le-of-mul-le-mul-right,
-}
+use native.Mathlib.Nat.{le-trans, le-of-eq, mul-right-comm, mul-le-mul-right, le-of-mul-le-mul-right}
 use native.Mathlib.Omega.{arith}
-use mathlib.Core.Path.{_≡_, sym, _∙_, subst}
-use mathlib.Core.Bool.{Bool, true, false, not, _&&_, _||_, cond, Bool·beq}
-use lib.Dec.{T, ltb, eqb, ltb→lt, eqb→eq, eqb-refl}
-use lib.Ieee.{Float, nan, inf, fin, up, down, lt, le, eq, isNan, level, ofBits}
+use mathlib.Core.Path.{_≡_, sym, subst}
+use mathlib.Core.Bool.{Bool, true, false, not, _&&_, _||_, cond}
+use lib.Dec.{T, ltb, eqb, eqb→eq}
+use lib.Ieee.{Float, nan, inf, fin, up, down, lt, le, eq, isNan, ofBits}
 use lib.Ieee.Fits.{down-pos, and-i, and-l, and-r}
 use Rattle.number.specs.Number.{zero32, clamp}
 use Rattle.number.specs.Range.{between}
-use Rattle.number.proofs.Within.{Within, or-l, or-r, not-lt-le}
+use Rattle.number.proofs.Within.{Within}
+use Rattle.number.proofs.Comparing.{not-lt-le, le-self, lt-le}
+use Rattle.number.proofs.Units.Compared.{no-size}
+use Rattle.number.proofs.Signs.{le-of-tests}
 use Rattle.number.proofs.NoNan.{no-nan-lt}
 use Rattle.polynomial_root.specs.Roots.{written}
+use Rattle.polynomial_root.proofs.Zeros.{high-zero}
 
--- ---- order
+-- ---- tests
 pub test-true : {b : Bool} → b ≡ true → T b
 test-true e = subst T (sym e) tt
-
-pub lt-le : (x y : Float) → T (lt x y) → T (le x y)
-unfolding le
-lt-le x y h = or-l (lt x y) (eq x y) h
-
-beq-refl : (s : Bool) → T (Bool·beq s s)
-beq-refl true = tt
-beq-refl false = tt
-
-pub le-self : (x : Float) → T (not (isNan x)) → T (le x x)
-unfolding le eq isNan
-le-self nan h = absurd h
-le-self (inf s) h = or-r (lt (inf s) (inf s)) (Bool·beq s s) (beq-refl s)
-le-self (fin s m e) h =
-    let a = m * up e * down e in
-    or-r (lt (fin s m e) (fin s m e)) (level s a s a)
-    (and-i (eqb a a) (Bool·beq s s || eqb a 0) (eqb-refl a) (or-l (Bool·beq s s) (eqb a 0) (beq-refl s)))
 
 -- ---- the range 0..t
 module _ (t : Float) (above : T (lt zero32 t)) where
@@ -73,13 +52,8 @@ module _ (t : Float) (above : T (lt zero32 t)) where
       go false false f g = and-i (le zero32 x) (le x t) (f tt) (g tt)
 
 -- ---- sizes: what lies in 0..t is no larger than t
-pub no-more : (a b : ℕ) → T (ltb a b || (eqb a b && true)) → a ≤ b
-no-more a b h = go (ltb a b) (eqb a b) (ltb→lt a b) (eqb→eq a b) h
-  where
-    go : (p q : Bool) → (T p → a < b) → (T q → a ≡ b) → T (p || (q && true)) → a ≤ b
-    go true q f g h = le-of-lt (f tt)
-    go false true f g h = le-of-eq (g tt)
-    go false false f g h = absurd h
+pub tested : (a b : ℕ) → T (ltb a b || (eqb a b && true)) → a ≤ b
+tested a b h = le-of-tests a b (eqb a b) (eqb→eq a b) h
 
 nothing : (a b : ℕ) → T (eqb a b && eqb a 0) → a ≤ b
 nothing a b h = le-of-eq (eqb→eq a b (and-l (eqb a b) (eqb a 0) h))
@@ -101,10 +75,8 @@ within-range a (inf true) (fin t n d) h k = absurd h
 within-range a (inf false) (fin true n d) h k = absurd h
 within-range a (inf false) (fin false n d) h k = absurd h
 within-range a (fin true m e) (fin t n d) h k =
-    let low = and-l (le zero32 (fin true m e)) (le (fin true m e) (fin t n d)) h in
     small a m (up e) (down e)
-    (sym (eqb→eq (0 * down e) (m * up e * 1) (and-l (eqb (0 * down e) (m * up e * 1)) (eqb (0 * down e) 0) low))
-    ∙ zero-mul (down e))
+    (no-size m (up e) 1 (high-zero m e (and-l (le zero32 (fin true m e)) (le (fin true m e) (fin t n d)) h)))
 within-range a (fin false m e) (fin true n d) h k =
     smaller-by a m (up e) (down e) n (up d) (down d) (down-pos d)
     (nothing (m * up e * down d) (n * up d * down e)
@@ -112,6 +84,6 @@ within-range a (fin false m e) (fin true n d) h k =
     k
 within-range a (fin false m e) (fin false n d) h k =
     smaller-by a m (up e) (down e) n (up d) (down d) (down-pos d)
-    (no-more (m * up e * down d) (n * up d * down e)
+    (tested (m * up e * down d) (n * up d * down e)
     (and-r (le zero32 (fin false m e)) (le (fin false m e) (fin false n d)) h))
     k

@@ -8,6 +8,7 @@ use lib.Ieee.Fits.{and-i, and-l}
 use Rattle.number.specs.Number.{_⊖_, _⊘_, zero32, size, smaller, larger}
 use Rattle.number.specs.Range.{between}
 use Rattle.number.proofs.Within.{Within, within-finite}
+use Rattle.number.proofs.Comparing.{lt-le}
 use Rattle.polynomial_root.specs.Roots.{none}
 use Rattle.polynomial_root.specs.Newton.{valueAt, slopeAt, stepped, flat, descend}
 use Rattle.polynomial_root.specs.Spans.{endAt, oneSided, bothZero, secant, started, spanRoot}
@@ -19,7 +20,6 @@ use Rattle.polynomial_root.specs.declared.quadratic.Solved.the-variants.
 use Rattle.polynomial_root.specs.declared.span.End.{End}
 use Rattle.polynomial_root.proofs.Orders.{
   test-true,
-  lt-le,
   zero-in-range,
   written-in-range,
   clamp-in-range,

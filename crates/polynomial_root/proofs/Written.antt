@@ -1,23 +1,22 @@
 -- A root as it is answered, with a zero written plus zero, is a number where the root is, and two roots keep their
 -- order. Assumes nothing.
 use Prim.Native.Nat.{ℕ, _+_, _*_, _≤_, _<_}
-use native.Mathlib.Nat.{le-of-eq, le-of-lt, zero-mul, mul-pos, eq-zero-or-pos}
+use native.Mathlib.Nat.{le-of-eq, le-of-lt, mul-pos, eq-zero-or-pos}
 use native.Mathlib.Omega.{arith}
-use mathlib.Core.Path.{_≡_, refl, sym, _∙_}
+use mathlib.Core.Path.{_≡_, refl, sym}
 use mathlib.Core.Logic.{inl, inr}
-use mathlib.Core.Bool.{Bool, true, false, not, cond, _&&_, _||_, Bool·beq}
-use lib.IntN.{ℤ}
+use mathlib.Core.Bool.{Bool, true, false, not, cond, _&&_, _||_}
 use lib.Dec.{T, ltb, eqb, ltb→lt, lt→ltb, eqb→eq}
-use lib.Pow.{pow-pos}
 use lib.Ieee.{Float, inf, fin, up, down, lt, le, eq, isNan, ofBits}
-use lib.Ieee.Fits.{up-pos, down-pos, and-i, and-l, eq→eqb}
+use lib.Ieee.Fits.{up-pos, down-pos, and-l}
 use Rattle.number.specs.Number.{zero32}
-use Rattle.number.proofs.Units.{none-of, no-size}
-use Rattle.number.proofs.Within.{or-l, or-r}
+use Rattle.number.proofs.Units.{none-of}
+use Rattle.number.proofs.Units.Compared.{no-size}
+use Rattle.number.proofs.Comparing.{or-l, le-self}
 use Rattle.number.proofs.Signs.{plus-up}
 use Rattle.polynomial_root.specs.Roots.{written}
-use Rattle.polynomial_root.proofs.Orders.{test-true, le-self, no-more}
-use Rattle.polynomial_root.proofs.Defined.{zero-eq}
+use Rattle.polynomial_root.proofs.Orders.{test-true, tested}
+use Rattle.polynomial_root.proofs.Zeros.{eq-zero, zero-high, zero-low}
 
 zero-number : T (not (isNan zero32))
 unfolding isNan ofBits
@@ -32,25 +31,6 @@ written-number r h = go (eq r zero32)
     go false = h
 
 -- ---- what is not above, or not below, a zero of either sign
-pub eq-zero : (s : Bool) (m : ℕ) (e : ℤ) → T (eq (fin s m e) zero32) → m ≡ 0
-unfolding eq ofBits
-eq-zero s m e h =
-    none-of m (up e) 1 (up-pos e) (pow-pos 0)
-    (eqb→eq (m * up e * 1) (0 * down e)
-    (and-l (eqb (m * up e * 1) (0 * down e)) (Bool·beq s false || eqb (m * up e * 1) 0) h)
-    ∙ zero-mul (down e))
-
-zero-high : (s : Bool) (n : ℕ) (d : ℤ) → n ≡ 0 → T (le zero32 (fin s n d))
-unfolding le lt eq ofBits
-zero-high false n d z = plus-up (fin false n d) tt
-zero-high true n d z =
-    and-i (eqb (0 * down d) (n * up d * 1)) (eqb (0 * down d) 0)
-    (eq→eqb (zero-mul (down d) ∙ sym (no-size n (up d) 1 z))) (eq→eqb (zero-mul (down d)))
-
-zero-low : (s : Bool) (m : ℕ) (e : ℤ) → m ≡ 0 → T (le (fin s m e) zero32)
-unfolding le
-zero-low s m e z = or-r (lt (fin s m e) zero32) (eq (fin s m e) zero32) (zero-eq s m e z)
-
 turned : (b a : ℕ) → T (ltb b a || (eqb a b && true)) → b ≤ a
 turned b a h = go (ltb b a) (eqb a b) (ltb→lt b a) (eqb→eq a b) h
   where
@@ -96,7 +76,7 @@ zero-down (fin false m e) (fin false n d) z h =
     let A = m * up e * down d in
     let B = n * up d * down e in
     zero-low false m e
-    (gone m (up e) (down d) B (up-pos e) (down-pos d) (no-more A B h)
+    (gone m (up e) (down d) B (up-pos e) (down-pos d) (tested A B h)
     (no-size n (up d) (down e) (eq-zero false n d z)))
 zero-down (fin false m e) (fin true n d) z h =
     let A = m * up e * down d in
