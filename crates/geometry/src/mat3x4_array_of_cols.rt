@@ -1,7 +1,8 @@
 // Four points as a whole (mat3x4_array_of_cols.rs, all of it): moved, centred, scaled.
 ghost use mathlib.Core.Path.{_≡_};
 ghost use Rattle.geometry.specs.Columns as Def;
-use super::vec3::{along, sub};
+use super::vec3::along;
+use super::vec3::sub;
 
 // The points at time t: each column of x0 plus t times its displacement.
 pub fn add_scaled(x0: [[f32; 3]; 4], dx: [[f32; 3]; 4], t: f32) -> [[f32; 3]; 4]
@@ -15,7 +16,12 @@ pub fn add_scaled(x0: [[f32; 3]; 4], dx: [[f32; 3]; 4], t: f32) -> [[f32; 3]; 4]
     let db = dx[1];
     let dc = dx[2];
     let dd = dx[3];
-    [along(a, t, da), along(b, t, db), along(c, t, dc), along(d, t, dd)]
+    [
+        along(a, t, da),
+        along(b, t, db),
+        along(c, t, dc),
+        along(d, t, dd),
+    ]
 }
 
 // The centre: a quarter of the sum over the columns.
