@@ -19,7 +19,8 @@ module _ (a b : Nearest) (m : Float) (isLeast : m ≡ a .squared) where
 
   pub least : (n : Float) → n ≡ smaller m (b .squared) → n ≡ nearer a b .squared
   unfolding nearer smaller
-  least n e = e ∙ ap (λ (k : Float). cond (lt (b .squared) k) (b .squared) k) isLeast ∙ go (lt (b .squared) (a .squared))
+  least n e =
+      e ∙ ap (λ (k : Float). cond (lt (b .squared) k) (b .squared) k) isLeast ∙ go (lt (b .squared) (a .squared))
     where
       go : (t : Bool) → cond t (b .squared) (a .squared) ≡ cond t b a .squared
       go true = refl

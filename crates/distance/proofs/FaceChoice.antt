@@ -48,7 +48,8 @@ pub reached : (x0 x1 x2 x3 : List Float) (inner : Nearest) (over : Bool) → Inn
 unfolding still
 reached x0 x1 x2 x3 inner over k t h =
     sym (reached-last t _ over inner h)
-    ∙ sym (above-from t (segmentPoint 0 x0 x1 x3) (segmentPoint 1 x1 x2 x3 ∷ segmentPoint 2 x2 x0 x3 ∷ only over inner))
+    ∙ sym (above-from t (segmentPoint 0 x0 x1 x3)
+    (segmentPoint 1 x1 x2 x3 ∷ segmentPoint 2 x2 x0 x3 ∷ only over inner))
     ∙ ap (λ (n : Nearest). lt t (n .squared)) (found x0 x1 x2 x3 _ _ _ inner over same k)
   where
     same : Rim x0 x1 x2 x3 (segmentPoint 0 x0 x1 x3) (segmentPoint 1 x1 x2 x3) (segmentPoint 2 x2 x0 x3)

@@ -1,5 +1,4 @@
--- The laws of the distance rules, and of f32 that they rest on.
-pub mod Order
+-- The laws of the distance rules.
 pub mod Choice
 pub mod Above
 pub mod EdgeChoice
@@ -9,3 +8,4 @@ pub mod Weights
 pub mod Ratios
 pub mod Listed
 pub mod Measured
+pub mod FirstSmallest

@@ -18,6 +18,7 @@ pub mod Later
 pub mod Sizes
 pub mod Finite
 pub mod Ranges
+pub mod Transitive
 pub mod NextUp
 pub mod SquareRoot
 pub mod Corners

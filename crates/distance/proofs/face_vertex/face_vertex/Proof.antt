@@ -1,5 +1,5 @@
--- `distance::face_vertex::face_vertex` meets its contract: what it answers is the last candidate that is nearer than all
--- before it, which is the first smallest. Assumes nothing.
+-- `distance::face_vertex::face_vertex` meets its contract: what it answers is the last candidate that is nearer than
+-- all before it, which is the first smallest. Assumes nothing.
 use borrow.Author.Needs.{needs}
 use mathlib.Core.Path.{_≡_, refl, _∙_}
 use mathlib.Core.Bool.{Bool, true, false, _&&_}

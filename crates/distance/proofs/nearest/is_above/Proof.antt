@@ -11,13 +11,15 @@ returns : tie.Need-returns
 returns c =
     let args = c .before .before .before .before .before .before .args in
     c .edges-above .ensures
-    ∙ ap (λ (n : Nearest). lt (args .threshold) (n .squared)) (sym (two (args .split) (args .t1) (c .before .if1 .taken)))
+    ∙ ap (λ (n : Nearest). lt (args .threshold) (n .squared))
+    (sym (two (args .split) (args .t1) (c .before .if1 .taken)))
 
 returns-2 : tie.Need-returns-2
 returns-2 c =
     let args = c .before .before .before .before .before .before .args in
     c .face-above .ensures
-    ∙ ap (λ (n : Nearest). lt (args .threshold) (n .squared)) (sym (other (args .split) (args .t1) (c .before .if1 .left)))
+    ∙ ap (λ (n : Nearest). lt (args .threshold) (n .squared))
+    (sym (other (args .split) (args .t1) (c .before .if1 .left)))
 
 pub is-above-spec : {M : Type 1} → statement M
 is-above-spec =
