@@ -1,32 +1,17 @@
--- The answered candidate is the first smallest of the list: those before it are not at or below it, those after it are
--- not below it. A NaN is passed over, unless it comes first. And candidates are numbered by their places.
--- Assumes nothing.
-use Prim.Native.Nat.{ℕ, suc}
+-- The chosen candidate is the first smallest of the list: those before it are not at or below it, those after it are
+-- not below it. A NaN is passed over, unless it comes first. Assumes nothing.
 use mathlib.Core.Path.{_≡_, refl, sym, ap, _∙_, subst}
 use mathlib.Core.Logic.{_⊎_, inl, inr}
-use mathlib.Core.Bool.{Bool, true, false, not, cond}
+use mathlib.Core.Bool.{Bool, true, false, not}
 use mathlib.Core.List.{List, [], _∷_}
-use lib.Dec.{T, T-not, eqb}
+use lib.Dec.{T, T-not}
 use lib.Ieee.{Float, lt, le, isNan}
-use Rattle.geometry.specs.Vec3.{col}
 use Rattle.number.proofs.NoNan.{no-nan-lt, no-nan-le}
-use Rattle.number.proofs.Comparing.{not-lt-le}
+use Rattle.number.proofs.Comparing.{not-lt-le, lt-le}
+use Rattle.number.proofs.Transitive.{lt-trans, le-lt-trans, lt-self, lt-not-le}
 use Rattle.distance.specs.declared.candidate.Nearest.{Nearest}
-use Rattle.distance.specs.Candidate.{
-  Candidates,
-  fromTo,
-  pointSegment,
-  segmentPoint,
-  only,
-  nearer,
-  nearestFrom,
-  firstSmallest,
-}
-use Rattle.distance.specs.EdgeEdge.{edgeProducts, edgesMeet, edgeInterior, edgeEdge}
-use Rattle.distance.specs.FaceVertex.{faceProducts, overFace, faceInterior, faceVertex}
-use Rattle.distance.specs.Nearest.{candidatesOf, nearestOf}
+use Rattle.distance.specs.Candidate.{Candidates, nearer, nearestFrom, firstSmallest}
 use Rattle.distance.proofs.Choice.{takes, keeps}
-use Rattle.number.proofs.Transitive.{lt-trans, lt-not-le, le-lt-trans}
 use Rattle.distance.proofs.Listed.{listed, Each}
 
 -- r is an entry of the list that none after it is below, and that none before it is at or below
@@ -120,37 +105,15 @@ from-first a (b ∷ rest) = step a b rest (λ (c : Nearest). from-first c rest) 
 pub smallest-first : (c : Candidates) → FirstOf (listed c) (firstSmallest c)
 smallest-first c = from-first (c .first) (c .others)
 
--- ---- by the split
-pub nearest-first : (split : ℕ) (x : List (List Float)) → FirstOf (listed (candidatesOf split x)) (nearestOf split x)
-unfolding nearestOf
-nearest-first split x = smallest-first (candidatesOf split x)
-
--- the entries are numbered from n on
-unfoldable pub NumberedFrom : ℕ → List Nearest → Type 0
-NumberedFrom n [] = Unit
-NumberedFrom n (c ∷ rest) = (c .candidate ≡ n) × NumberedFrom (suc n) rest
-
-only-numbered : (n : ℕ) (t : Bool) (c : Nearest) → c .candidate ≡ n → NumberedFrom n (only t c)
-unfolding NumberedFrom only
-only-numbered n true c e = (e, tt)
-only-numbered n false c e = tt
-
-pub candidates-numbered : (split : ℕ) (x : List (List Float)) → NumberedFrom 0 (listed (candidatesOf split x))
-unfolding candidatesOf edgeEdge faceVertex NumberedFrom fromTo pointSegment segmentPoint edgeInterior faceInterior
-candidates-numbered split x = go (eqb split 2)
-  where
-    x0 : List Float
-    x0 = col x 0
-
-    x1 : List Float
-    x1 = col x 1
-
-    x2 : List Float
-    x2 = col x 2
-
-    x3 : List Float
-    x3 = col x 3
-
-    go : (b : Bool) → NumberedFrom 0 (listed (cond b (edgeEdge x0 x1 x2 x3) (faceVertex x0 x1 x2 x3)))
-    go true = (refl, (refl, (refl, (refl, only-numbered 4 (edgesMeet (edgeProducts x0 x1 x2 x3)) _ refl))))
-    go false = (refl, (refl, (refl, only-numbered 3 (overFace (faceProducts x0 x1 x2 x3)) _ refl)))
+-- so none is below it
+pub none-below : (l : List Nearest) (r : Nearest) → FirstOf l r
+    → Each (λ (c : Nearest). lt (c .squared) (r .squared) ≡ false) l
+unfolding FirstOf Each
+none-below [] r h = absurd h
+none-below (c ∷ rest) r (inl (e, f)) =
+    (subst (λ (d : Nearest). lt (c .squared) (d .squared) ≡ false) (sym e) (is-false _ (lt-self (c .squared))), f)
+none-below (c ∷ rest) r (inr (e, f)) = (
+  is-false (lt (c .squared) (r .squared))
+      (λ k. none (le (c .squared) (r .squared)) e (lt-le (c .squared) (r .squared) k)),
+  none-below rest r f,
+)

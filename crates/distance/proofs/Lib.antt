@@ -9,3 +9,4 @@ pub mod Ratios
 pub mod Listed
 pub mod Measured
 pub mod FirstSmallest
+pub mod Answer
