@@ -56,20 +56,20 @@ module _ (t : Float) where
   above-from a (b ∷ rest) = above-from (nearer a b) rest ∙ ap (λ (z : Bool). still z rest) (above-nearer a b)
 
   -- a last candidate that is there only where the test m holds
-  pub reached-last : (b m : Bool) (c : Nearest) → m && le (c .squared) t ≡ true → still b (only m c) ≡ false
+  pub last-reaches : (b m : Bool) (c : Nearest) → m && le (c .squared) t ≡ true → still b (only m c) ≡ false
   unfolding still only
-  reached-last b true c h = rw h (none b)
+  last-reaches b true c h = rw h (none b)
     where
       none : (b : Bool) → b && false ≡ false
       none true = refl
       none false = refl
-  reached-last b false c h = absurd (false≢true h)
+  last-reaches b false c h = absurd (false≢true h)
 
-  pub clear-last : (b m : Bool) (c : Nearest) → m && le (c .squared) t ≡ false → still b (only m c) ≡ b
+  pub last-clears : (b m : Bool) (c : Nearest) → m && le (c .squared) t ≡ false → still b (only m c) ≡ b
   unfolding still only
-  clear-last b true c h = rw h (same b)
+  last-clears b true c h = rw h (same b)
     where
       same : (b : Bool) → b && true ≡ b
       same true = refl
       same false = refl
-  clear-last b false c h = refl
+  last-clears b false c h = refl

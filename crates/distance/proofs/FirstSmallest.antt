@@ -11,7 +11,7 @@ use Rattle.number.proofs.Comparing.{not-lt-le, lt-le}
 use Rattle.number.proofs.Transitive.{lt-trans, le-lt-trans, lt-self, lt-not-le}
 use Rattle.distance.specs.declared.candidate.Nearest.{Nearest}
 use Rattle.distance.specs.Candidate.{Candidates, nearer, nearestFrom, firstSmallest}
-use Rattle.distance.proofs.Choice.{takes, keeps}
+use Rattle.distance.proofs.Choice.{nearer-takes, nearer-stays}
 use Rattle.distance.proofs.Listed.{listed, Each}
 
 -- r is an entry of the list that none after it is below, and that none before it is at or below
@@ -91,10 +91,10 @@ module _ (a b r : Nearest) (rest : List Nearest) where
 step : (a b : Nearest) (rest : List Nearest) → ((c : Nearest) → FirstOf (c ∷ rest) (nearestFrom c rest)) → (t : Bool)
     → lt (b .squared) (a .squared) ≡ t → FirstOf (a ∷ b ∷ rest) (nearestFrom (nearer a b) rest)
 step a b rest tail true e =
-    subst (λ (n : Nearest). FirstOf (a ∷ b ∷ rest) (nearestFrom n rest)) (takes a b (a .squared) refl e)
+    subst (λ (n : Nearest). FirstOf (a ∷ b ∷ rest) (nearestFrom n rest)) (nearer-takes a b (a .squared) refl e)
     (taken a b (nearestFrom b rest) rest (subst T (sym e) tt) (tail b))
 step a b rest tail false e =
-    subst (λ (n : Nearest). FirstOf (a ∷ b ∷ rest) (nearestFrom n rest)) (keeps a b (a .squared) refl e)
+    subst (λ (n : Nearest). FirstOf (a ∷ b ∷ rest) (nearestFrom n rest)) (nearer-stays a b (a .squared) refl e)
     (kept a b (nearestFrom a rest) rest e (nan-stays a rest) (tail a))
 
 from-first : (a : Nearest) (rest : List Nearest) → FirstOf (a ∷ rest) (nearestFrom a rest)

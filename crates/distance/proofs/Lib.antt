@@ -1,10 +1,10 @@
--- The laws of the distance rules.
-pub mod Choice
-pub mod Above
-pub mod EdgeChoice
-pub mod FaceChoice
-pub mod Split
-pub mod Weights
+-- The laws of the distance rules. Others cite what is public: facts of each candidate of a pair, and of the answer.
+mod Choice
+mod Above
+mod EdgeChoice
+mod FaceChoice
+mod Split
+mod Weights
 pub mod Ratios
 pub mod Listed
 pub mod Measured
