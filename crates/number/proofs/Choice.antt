@@ -1,13 +1,13 @@
 -- `smaller`, `larger` and `clamp` (specs/Number.antt) answer one of their arguments, so they keep whatever holds of
--- all
--- of them: a bound, a sign, being no NaN. And the order of the answer. Assumes nothing.
+-- all of them: a bound, a sign, being no NaN. And the order of the answer. Assumes nothing.
 use mathlib.Core.Bool.{Bool, true, false, not, cond}
 use lib.Dec.{T}
 use lib.Ieee.{Float, lt, le, isNan, ofBits}
 use Rattle.number.specs.Number.{zero32, one32, smaller, larger, clamp}
 use Rattle.number.proofs.Comparing.{not-lt-le, le-self, lt-le}
 
-pick : (P : Float → Type 0) (b : Bool) (x y : Float) → P x → P y → P (cond b x y)
+-- what holds of both holds of the one chosen
+pub pick : (P : Float → Type 0) (b : Bool) (x y : Float) → P x → P y → P (cond b x y)
 pick P true x y p q = p
 pick P false x y p q = q
 

@@ -1,4 +1,6 @@
--- The laws of f32 that the other crates cite.
+-- The laws of f32 that the other crates cite, from whole numbers up: rounding, units of 2 ^ -149, operations, patterns
+-- and neighbours, halvings, order, bounds, signs, then the helpers of this crate.
+pub mod Numbers
 pub mod Rounding
 pub mod Units
 pub mod Sums
@@ -13,6 +15,7 @@ pub mod Halvings
 pub mod Comparing
 pub mod Choice
 pub mod Within
+pub mod Quotients
 pub mod Signs
 pub mod Later
 pub mod Sizes

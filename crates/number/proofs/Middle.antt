@@ -20,7 +20,7 @@ mid s = rnd (rnd s 1) 2
 
 -- M is a multiple of 2 ^ k and half of s to within a half of 2 ^ k; and where k is above 0, s is so large that 2 ^ k
 -- is the step of the numbers about half of s
-abbrev pub Mid : ℕ → ℕ → Type 0
+abbrev Mid : ℕ → ℕ → Type 0
 Mid s M =
     (k : ℕ) × (q : ℕ) × (M ≡ q * 2 ^ k) × (M * 2 ≤ s + 2 ^ k) × (s ≤ M * 2 + 2 ^ k) × ((k ≡ 0) ⊎ (2 ^ (24 + k) ≤ s))
 
@@ -44,8 +44,7 @@ mid-small s e =
       rnd s 2,
       sym (mul-one (rnd s 2)),
       up (kept 24 s 2) (2 ^ drop 24 s 2) p (n .0),
-      down (kept 24 s 2)
-          (2 ^ drop 24 s 2) p (n .1),
+      down (kept 24 s 2) (2 ^ drop 24 s 2) p (n .1),
       inl refl,
     )
   where
@@ -74,12 +73,15 @@ mid-large s k e =
       m,
       up (mid s) (c * 2 ^ k) (rnd s 1) (2 ^ drop 24 s 1) (2 ^ k) m r t (h .0),
       down (mid s) (c * 2 ^ k) (rnd s 1) (2 ^ drop 24 s 1) (2 ^ k) m r t (h .1),
-      inr (le-trans (le-of-eq (ap (λ (x : ℕ). 2 ^ x) (shift k) ∙ ap (λ (x : ℕ). 2 ^ (23 + x)) (sym e) ∙ sym (mul-one
-          (2 ^ (23 + drop 24 s 1))))) big),
+      inr (le-trans (le-of-eq reach) big),
     )
   where
     shift : (k : ℕ) → 24 + k ≡ 23 + suc k
     shift k = omega arith
+
+    reach : 2 ^ (24 + k) ≡ 2 ^ (23 + drop 24 s 1) * 1
+    reach =
+        ap (λ (x : ℕ). 2 ^ x) (shift k) ∙ ap (λ (x : ℕ). 2 ^ (23 + x)) (sym e) ∙ sym (mul-one (2 ^ (23 + drop 24 s 1)))
 
     some : (k : ℕ) → 0 < suc k
     some k = omega arith
@@ -90,7 +92,7 @@ mid-large s k e =
     down : (m c r w p : ℕ) → m ≡ c → r ≡ c * 2 → w ≡ p * 2 → s * 2 ≤ r * 2 + w → s ≤ m * 2 + p
     down m c r w p a b d h = omega arith
 
-pub mid-is : (s : ℕ) → Mid s (mid s)
+mid-is : (s : ℕ) → Mid s (mid s)
 mid-is s = go (drop 24 s 1) refl
   where
     go : (k : ℕ) → drop 24 s 1 ≡ k → Mid s (mid s)

@@ -2,12 +2,12 @@
 -- pattern has more, and that of two neighbours the upper one has the next pattern. Assumes nothing.
 use mathlib.Core.Path.{_≡_, sym, ap, _∙_, subst}
 use mathlib.Core.Logic.{inl, inr}
+use mathlib.Core.Bool.{true, false}
 use Prim.Native.Nat.{ℕ, suc, _+_, _-_, _*_, _/_, _^_, _≤_, _<_}
 use native.Mathlib.Nat.{le-of-eq, le-of-lt, lt-of-lt-of-le, lt-of-le-of-lt, lt-of-not-le, not-le-of-lt}
 use native.Mathlib.Nat.{eq-of-mul-eq-mul-right, eq-or-lt-of-le}
 use native.Mathlib.Omega.{arith}
 use native.Mathlib.Decide.{decLe}
-use mathlib.Core.Bool.{true, false}
 use lib.Dec.{T, ltb→lt, lt→ltb}
 use lib.Ieee.{Float, nan, inf, fin, binary32, up, down, size, ofBits, toBits, fits, lt}
 use lib.Ieee.Bits.{ofBits-toBits, ofBits-fits}
@@ -43,8 +43,8 @@ module _ (x : Float) (u : ℕ) (f : T (fits binary32 x)) (p : T (plus x)) (i : U
 
 -- ---- what lies above, and between
 -- what is finite and above some x that is not below zero has the sign plus
-pub after : (x w : Float) (u : ℕ) → Is x u → T (fits binary32 w) → T (finite w) → T (lt x w) → T (plus w)
-    × ((r : ℕ) × Unit32 w r)
+pub after : (x w : Float) (u : ℕ) → Is x u → T (fits binary32 w) → T (finite w) → T (lt x w)
+    → T (plus w) × ((r : ℕ) × Unit32 w r)
 unfolding lt
 after (fin false m e) (fin false n d) u p f k a = (tt, (n * 2 ^ shift d, fin-false n d f))
 after (fin false m e) (fin true n d) u p f k a = absurd a

@@ -1,13 +1,21 @@
--- Where a value is no NaN: by a program's own tests, and by a bit pattern. Assumes nothing.
-use mathlib.Core.Path.{_≡_, sym, _∙_, subst}
-use Prim.Native.Nat.{ℕ, _%_, _≤_}
-use mathlib.Core.Bool.{Bool, true, false, not, _&&_, true≢false}
-use lib.Dec.{T}
-use lib.Ieee.{Float, nan, inf, fin, binary32, binary64, ne, lt, le, fits, isNan, ofBits}
+-- Where a value is no NaN: by a program's own tests, by a bit pattern, where it was rounded, and a quotient.
+-- Assumes nothing.
+use mathlib.Core.Path.{_≡_, sym, _∙_, subst, ap}
+use mathlib.Core.Bool.{Bool, true, false, not, _&&_, true≢false, cond}
+use Prim.Native.Nat.{ℕ, _%_, _≤_, zero, suc, _*_, _^_, _<_}
+use native.Mathlib.Omega.{arith}
+use lib.Dec.{T, ltb, eqb, ltb→lt, eqb→eq}
+use lib.Ieee.{Float, nan, inf, fin, binary32, binary64, ne, lt, le, fits, isNan, ofBits, round, units, odd, up, down}
+use lib.Ieee.{div, unlike}
 use lib.Ieee.Bits.{ofBits-fits, nanBits-is}
 use lib.Ieee.Compare.{nan-differs}
-use lib.Ieee.Fits.{and-i, and-l, fits-widens}
+use lib.Ieee.Fits.{and-i, and-l, fits-widens, round-is}
+use lib.Ieee.Order.{drop, kept}
+use lib.Ieee.Scale.{finite}
+use Rattle.number.specs.Number.{zero32}
 use Rattle.number.proofs.Patterns.{no-nan-bits}
+use Rattle.number.proofs.Units.{L}
+use Rattle.number.proofs.Numbers.{zero-size}
 
 -- the test x != x
 pub no-nan-ne : (x : Float) → ne x x ≡ false → T (not (isNan x))
@@ -35,7 +43,7 @@ pub no-nan-between : (a x b : Float) → (le a x && lt x b) ≡ true → T (not 
 no-nan-between a x b h = no-nan-le a x (and-l (le a x) (lt x b) (subst T (sym h) tt)) .1
 
 -- a pattern that is no NaN's
-pub no-nan-of : (b : ℕ) → b % 2147483648 ≤ 2139095040 → T (not (isNan (ofBits binary32 b)))
+no-nan-of : (b : ℕ) → b % 2147483648 ≤ 2139095040 → T (not (isNan (ofBits binary32 b)))
 no-nan-of b h = subst (λ (t : Bool). T (not t)) (nanBits-is binary32 b) (no-nan-bits b h)
 
 -- and an f32 of such a pattern can be cast to an f64
@@ -44,3 +52,39 @@ pub widens : (b : ℕ) → b % 2147483648 ≤ 2139095040
 widens b h =
     let x = ofBits binary32 b in
     and-i (fits binary64 x) (not (isNan x)) (fits-widens x (ofBits-fits binary32 b)) (no-nan-of b h)
+
+-- ---- what is rounded
+odd-no-nan : (d : ℕ) (s : Bool) (q k l : ℕ) → T (not (isNan (odd d s q k l)))
+unfolding odd isNan
+odd-no-nan d s zero k l = tt
+odd-no-nan d s (suc q) k l = tt
+
+units-no-nan : (s : Bool) (q k : ℕ) → T (not (isNan (units binary32 s q k)))
+unfolding units
+units-no-nan s q k = go (ltb (q * 2 ^ k) (2 ^ 277))
+  where
+    go : (b : Bool) → T (not (isNan (cond b (odd 25 s q k 149) (inf s))))
+    go true = odd-no-nan 25 s q k 149
+    go false = unfold isNan in tt
+
+pub round-no-nan : (s : Bool) (a c : ℕ) → T (not (isNan (round binary32 s a c)))
+round-no-nan s a c =
+    subst (λ (z : Float). T (not (isNan z))) (sym (round-is binary32 s a c))
+    (units-no-nan s (kept 24 (a * L) c) (drop 24 (a * L) c))
+
+-- ---- a quotient, where the divisor is finite and above zero
+pub div-no-nan : (x y : Float) → T (finite x) → T (finite y) → T (lt zero32 y) → T (not (isNan (div binary32 x y)))
+unfolding div lt ofBits
+div-no-nan (fin s m e) (fin true n d) f g h = absurd h
+div-no-nan (fin s m e) (fin false n d) f g h = go (eqb n 0) (eqb→eq n 0)
+  where
+    clash : (a : ℕ) (b : ℕ) → a < b → b ≡ 0 → ⊥
+    clash a b h e = omega arith
+
+    go : (b : Bool) → (T b → n ≡ 0)
+        → T (not (isNan (cond b (cond (eqb m 0) nan (inf (unlike s false)))
+        (round binary32 (unlike s false) (m * up e * down d) (n * up d * down e)))))
+    go true z =
+        absurd (clash (0 * down d) (n * up d * 1) (ltb→lt (0 * down d) (n * up d * 1) h)
+        (ap (λ (x : ℕ). x * up d * 1) (z tt) ∙ zero-size (up d) 1))
+    go false z = round-no-nan (unlike s false) (m * up e * down d) (n * up d * down e)

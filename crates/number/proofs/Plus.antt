@@ -1,15 +1,16 @@
 -- Where the sign is plus: what is rounded with it, a sum, a half, a midpoint. Assumes nothing.
-use mathlib.Core.Path.{sym, _∙_, subst}
-use Prim.Native.Nat.{ℕ, zero, suc, _+_, _-_, _*_, _^_}
+use mathlib.Core.Path.{_≡_, refl, sym, _∙_, subst}
 use mathlib.Core.Bool.{Bool, true, false, cond}
+use Prim.Native.Nat.{ℕ, zero, suc, _+_, _-_, _*_, _^_}
 use lib.Dec.{T, ltb}
+use lib.IntN.{ℤ}
 use lib.Ieee.Order.{drop, kept}
 use lib.Ieee.{Float, inf, fin, binary32, up, down, round, units, odd, add, mul, ofBits}
 use lib.Ieee.Fits.{round-is}
 use Rattle.number.specs.Number.{half32}
 use Rattle.number.specs.Halving.{midpoint}
 use Rattle.number.proofs.Units.{L, Is, plus, no-size}
-use Rattle.number.proofs.Sums.{add-opens, sum-ff, sum-ft, half-opens, none-le}
+use Rattle.number.proofs.Sums.{add-opens, sum-ff, sum-ft, none-le}
 
 -- ---- `round` with the sign plus
 odd-plus : (d q k l : ℕ) → T (plus (odd d false q k l))
@@ -41,6 +42,12 @@ add-plus (fin false m e) (fin true n d) u v p q h =
     ∙ sum-ft (m * up e * down d) (n * up d * down e) (down e * down d)
     (none-le (m * up e * down d) (n * up d * down e) (no-size n (up d) (down e) (q .0)))))
     (round-plus (m * up e * down d - n * up d * down e) (down e * down d))
+
+half-opens : (t : Bool) (n : ℕ) (d : ℤ)
+    → mul binary32 half32 (fin t n d) ≡ round binary32 t (1 * 1 * (n * up d)) (2 * down d)
+unfolding mul ofBits
+half-opens true n d = refl
+half-opens false n d = refl
 
 pub half-plus : (y : Float) → T (plus y) → T (plus (mul binary32 half32 y))
 unfolding mul ofBits

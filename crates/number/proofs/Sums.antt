@@ -1,20 +1,17 @@
--- The sum, the difference and the half of f32 values that are not below zero, in units of 2 ^ -149: each is the exact
--- one, rounded by `rnd`. Assumes nothing.
+-- The sum and the difference of f32 values that are not below zero, in units of 2 ^ -149: each is the exact one,
+-- rounded by `rnd`. Assumes nothing.
 pub mod Rounded
 pub use Rounded.*
 use mathlib.Core.Path.{_≡_, refl, sym, ap, _∙_, subst}
-use Prim.Native.Nat.{ℕ, _+_, _-_, _*_, _≤_, _<_}
-use native.Mathlib.Nat.{le-trans, le-of-eq, zero-mul, one-mul, add-mul, mul-assoc, mul-comm, mul-pos}
-use native.Mathlib.Nat.{mul-le-mul-right, le-of-mul-le-mul-right}
-use native.Mathlib.Omega.{arith}
 use mathlib.Core.Bool.{Bool, true, false, not}
+use Prim.Native.Nat.{ℕ, _+_, _-_, _*_, _≤_, _<_}
+use native.Mathlib.Nat.{le-trans, le-of-eq, zero-mul, add-mul, mul-pos, mul-le-mul-right, le-of-mul-le-mul-right}
+use native.Mathlib.Omega.{arith}
 use lib.IntN.{ℤ}
-use lib.Dec.{lit<}
 use lib.Pow.{pow-pos}
-use lib.Ieee.{Float, fin, binary32, up, down, round, sum, add, sub, mul, ofBits}
+use lib.Ieee.{Float, fin, binary32, up, down, round, sum, add, sub}
 use lib.Ieee.Fits.{up-pos, down-pos}
-use Rattle.number.specs.Number.{half32}
-use Rattle.number.proofs.Rounding.{rnd, rnd-same, rnd-fix}
+use Rattle.number.proofs.Rounding.{rnd}
 use Rattle.number.proofs.Units.{L, Top, Is, size-is, left, right, no-size, none-of}
 
 -- ---- the sum
@@ -138,31 +135,3 @@ sub-is (fin s m e) (fin t n d) u v p q o h =
         put (sum binary32 true A false B C) (round binary32 false (A + B) C)
         (sum-tf A B C (none-le B A z) ∙ ap (λ (x : ℕ). round binary32 false x C) (no-take' A B z))
         (rounded (A + B) C (u - v) K (whole A B C L (b ∙ no-size n (up d) (down e) (q .0)) (q .1) i) h)
-
--- ---- the half
-pub half-opens : (t : Bool) (n : ℕ) (d : ℤ)
-    → mul binary32 half32 (fin t n d) ≡ round binary32 t (1 * 1 * (n * up d)) (2 * down d)
-unfolding mul ofBits
-half-opens true n d = refl
-half-opens false n d = refl
-
-half-units : (n : ℕ) (d : ℤ) (v : ℕ) → n * up d * L ≡ v * down d → rnd (1 * 1 * (n * up d) * L) (2 * down d) ≡ rnd v 2
-half-units n d v e =
-    rnd-same (1 * 1 * (n * up d) * L) (2 * down d) v 2 (mul-pos (pow-pos 1) (down-pos d)) (pow-pos 1)
-    (ap (λ (x : ℕ). x * L * 2) (one-mul (n * up d)) ∙ ap (λ (x : ℕ). x * 2) e ∙ mul-assoc v (down d) 2
-    ∙ ap (λ (x : ℕ). v * x) (mul-comm (down d) 2))
-
-pub half-is : (y : Float) (v : ℕ) → Is y v → rnd v 2 < Top → Is (mul binary32 half32 y) (rnd v 2)
-half-is (fin false n d) v q h =
-    let k = half-units n d v q in
-    subst (λ (z : Float). Is z (rnd v 2)) (sym (half-opens false n d))
-    (subst (λ (z : ℕ). Is (round binary32 false (1 * 1 * (n * up d)) (2 * down d)) z) k
-    (to-is (round binary32 false (1 * 1 * (n * up d)) (2 * down d)) (rnd (1 * 1 * (n * up d) * L) (2 * down d))
-    (round-at false (1 * 1 * (n * up d)) (2 * down d) (subst (λ (z : ℕ). z < Top) (sym k) h))))
-half-is (fin true n d) v q h =
-    let k = half-units n d v (size-is true n d v q) in
-    let z : rnd v 2 ≡ 0 = ap (λ (x : ℕ). rnd x 2) (q .1) ∙ rnd-fix 0 2 (pow-pos 1) (0, 0, lit< tt, refl) in
-    subst (λ (z : Float). Is z (rnd v 2)) (sym (half-opens true n d))
-    (subst (λ (z : ℕ). Is (round binary32 true (1 * 1 * (n * up d)) (2 * down d)) z) k
-    (to-is-minus (round binary32 true (1 * 1 * (n * up d)) (2 * down d)) (rnd (1 * 1 * (n * up d) * L) (2 * down d))
-    (k ∙ z) (round-at true (1 * 1 * (n * up d)) (2 * down d) (subst (λ (z : ℕ). z < Top) (sym k) h))))

@@ -4,12 +4,12 @@ pub mod Compared
 pub use Compared.*
 use mathlib.Core.Path.{_≡_, refl, sym, ap, _∙_, subst}
 use mathlib.Core.Logic.{inl, inr}
+use mathlib.Core.Bool.{Bool, true, false, not, _&&_}
 use Prim.Native.Nat.{ℕ, zero, suc, _+_, _-_, _*_, _/_, _%_, _^_, _≤_, _<_}
 use native.Mathlib.Nat.{le-trans, le-of-eq, lt-of-lt-of-le, lt-of-le-of-lt, lt-of-not-le, lt-irrefl, le-of-suc-le-suc}
 use native.Mathlib.Nat.{eq-zero-or-pos, zero-mul, mul-one, mul-assoc, mul-right-comm, mul-pos}
 use native.Mathlib.Nat.{mul-lt-mul-of-pos-right, lt-of-mul-lt-mul-right, mul-div-cancel}
 use native.Mathlib.Omega.{arith}
-use mathlib.Core.Bool.{Bool, true, false, not, _&&_}
 use lib.IntN.{ℤ, pos, negsuc}
 use lib.Dec.{T, leb, ltb, eqb, leb→le, ltb→lt, eqb→eq, lit<}
 use lib.Pow.{pow-add, pow-pos, pow-lt}
@@ -30,7 +30,7 @@ pow-le-back : (a l : ℕ) → 2 ^ a ≤ 2 ^ l → a ≤ l
 pow-le-back a l h =
     le-of-suc-le-suc (lt-of-not-le (λ (g : suc l ≤ a). lt-irrefl (2 ^ l) (lt-of-lt-of-le (pow-lt g) h)))
 
-pub shift-is : (m : ℕ) (e : ℤ) → down e ≤ L → m * up e * L ≡ m * 2 ^ shift e * down e
+shift-is : (m : ℕ) (e : ℤ) → down e ≤ L → m * up e * L ≡ m * 2 ^ shift e * down e
 shift-is m (pos a) h =
     mul-assoc m (2 ^ a) L ∙ ap (λ (x : ℕ). m * x) (sym (pow-add 2 a 149)) ∙ sym (mul-one (m * 2 ^ (a + 149)))
 shift-is m (negsuc a) h =
@@ -51,8 +51,8 @@ fit s zero e t =
     record {
       digits = lit< tt;
       deep = flat e (eqb→eq (up e * down e) 1 t);
-      high = subst
-          (λ (x : ℕ). x < 2 ^ 128 * down e) (sym (zero-mul (up e))) (mul-pos (pow-pos 128) (down-pos e));
+      high =
+          subst (λ (x : ℕ). x < 2 ^ 128 * down e) (sym (zero-mul (up e))) (mul-pos (pow-pos 128) (down-pos e));
     }
   where
     one : (a b : ℕ) → 0 < a → a * b ≡ 1 → b ≤ 1
@@ -98,8 +98,7 @@ pub none-of : (m a b : ℕ) → 0 < a → 0 < b → m * a * b ≡ 0 → m ≡ 0
 none-of m a b A B h =
     elim (eq-zero-or-pos m) [
       | inl z ↦ z
-      | inr p ↦ absurd
-          (lt-irrefl 0 (subst (λ (x : ℕ). 0 < x) h (mul-pos (mul-pos p A) B)))
+      | inr p ↦ absurd (lt-irrefl 0 (subst (λ (x : ℕ). 0 < x) h (mul-pos (mul-pos p A) B)))
     ]
 
 pub of-float : (x : Float) → T (fits binary32 x) → T (finite x) → T (le zero32 x) → (u : ℕ) × Unit32 x u
@@ -115,6 +114,10 @@ of-float (fin true m e) t f h =
         under = pow-pos 277;
       },
     )
+
+pub zero-is : Is zero32 0
+unfolding ofBits
+zero-is = refl
 
 -- ---- a float of which the sign is plus is told by its units
 abbrev pub plus : Float → Bool
@@ -136,8 +139,8 @@ same-float x y u f g p q a b =
     ∙ ofBits-toBits binary32 y g
 
 -- ---- what is not below zero and not above something finite is finite
-pub of-range : (x y : Float) (v : ℕ) → T (fits binary32 x) → T (le zero32 x) → T (le x y) → Is y v → (u : ℕ)
-    × Unit32 x u
+pub of-range : (x y : Float) (v : ℕ) → T (fits binary32 x) → T (le zero32 x) → T (le x y) → Is y v
+    → (u : ℕ) × Unit32 x u
 unfolding le ofBits
 of-range x y v t h k q = of-float x t (bounded x y h k q) h
   where

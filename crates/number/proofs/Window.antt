@@ -1,12 +1,12 @@
--- The halving of a span of f32 times between 0 and 1, until the computed window repeats: it ends at neighbours, after
--- at most 255 halvings. Assumes nothing.
+-- One halving of a span of f32 times between 0 and 1, in units of 2 ^ -149: the computed midpoint and window, the
+-- halved span, and that nothing lies between the ends where the computed window repeats. Assumes nothing.
 use mathlib.Core.Path.{_≡_, refl, sym, subst}
 use mathlib.Core.Logic.{_⊎_, inl, inr}
+use mathlib.Core.Bool.{true, false}
 use Prim.Native.Nat.{ℕ, _+_, _-_, _*_, _^_, _≤_, _<_}
 use native.Mathlib.Nat.{le-refl, le-trans, le-of-eq, le-of-lt, lt-of-lt-of-le, lt-of-le-of-lt, lt-irrefl, add-comm}
 use native.Mathlib.Nat.{mul-le-mul-right}
 use native.Mathlib.Omega.{arith}
-use mathlib.Core.Bool.{Bool, true, false}
 use lib.Dec.{T, ltb→lt, leb→le, eqb→eq, lit<, lit≤}
 use lib.Pow.{pow-pos}
 use lib.Ieee.{Float, nan, inf, fin, binary32, add, lt, le, eq, fits, ofBits}
@@ -17,7 +17,8 @@ use Rattle.number.proofs.Rounding.{rnd, Rep, rnd-mono, rnd-fix, rnd-rep
 use Rattle.number.proofs.Middle.{mid, mid-between, mid-third, Third}
 use Rattle.number.proofs.Units.{L, Top, Is, Unit32, lt-is, le-is, eq-is, of-float}
 use Rattle.number.proofs.Neighbours.{after, below-finite}
-use Rattle.number.proofs.Sums.{add-is, sub-is, half-is}
+use Rattle.number.proofs.Sums.{add-is, sub-is}
+use Rattle.number.proofs.Products.{half-is}
 
 -- ---- a span, in units
 pub record Span (lo hi : Float) (u v : ℕ) : Type 0 where
@@ -25,9 +26,6 @@ pub record Span (lo hi : Float) (u v : ℕ) : Type 0 where
   pub high : Unit32 hi v
   pub order : u < v
   pub top : v ≤ L
-
-pub T-of : {b c : Bool} → b ≡ c → T b → T c
-T-of e t = subst T e t
 
 one-is : Is one32 L
 unfolding ofBits
@@ -61,8 +59,8 @@ span-of lo hi f g z l o =
       record {
         low = a .1;
         high = b .1;
-        order = ltb→lt (a .0) (b .0) (T-of (lt-is lo hi (a .0) (b .0) i j) l);
-        top = leb→le (b .0) L (T-of (le-is hi one32 (b .0) L j one-is) o);
+        order = ltb→lt (a .0) (b .0) (subst T (lt-is lo hi (a .0) (b .0) i j) l);
+        top = leb→le (b .0) L (subst T (le-is hi one32 (b .0) L j one-is) o);
       },
     )
 
@@ -70,7 +68,7 @@ span-of lo hi f g z l o =
 rep-150 : Rep (2 ^ 150)
 rep-150 = (1, 150, lit< tt, refl)
 
-pub rnd-small : (n : ℕ) → n ≤ 2 ^ 150 → rnd n 1 < Top
+rnd-small : (n : ℕ) → n ≤ 2 ^ 150 → rnd n 1 < Top
 rnd-small n h =
     lt-of-le-of-lt (le-trans (rnd-mono n 1 (2 ^ 150) 1 (pow-pos 0) (pow-pos 0) (mul-le-mul-right 1 h))
     (le-of-eq (rnd-fix (2 ^ 150) 1 (pow-pos 0) rep-150))) (lit< tt)
@@ -113,8 +111,8 @@ pub record Step (lo' hi' : Float) (u v u' v' : ℕ) : Type 0 where
   pub to : v' ≤ v
   pub shrinks : (r : ℕ) → Rep r → u < r → r < v → (v' - u') * 3 ≤ (v - u) * 2
 
-pub step-at : (lo hi lo' hi' : Float) (u v : ℕ) → Span lo hi u v → Split lo hi lo' hi' → (u' : ℕ) × (v' : ℕ)
-    × Step lo' hi' u v u' v'
+pub step-at : (lo hi lo' hi' : Float) (u v : ℕ) → Span lo hi u v → Split lo hi lo' hi'
+    → (u' : ℕ) × (v' : ℕ) × Step lo' hi' u v u' v'
 step-at lo hi lo' hi' u v s h = go h
   where
     b : (u ≤ mid (u + v)) × (mid (u + v) ≤ v)
@@ -158,13 +156,13 @@ neighbours lo hi lo' hi' u v s h e w f a b =
     let v' = t .1 in
     let k = t .2 in
     let r = after lo' w u' (k .low .is) f (below-finite lo' w hi' u' v' (k .low .is) (k .high .is) a b) a .1 in
-    let x : u' < r .0 = ltb→lt u' (r .0) (T-of (lt-is lo' w u' (r .0) (k .low .is) (r .1 .is)) a) in
-    let y : r .0 < v' = ltb→lt (r .0) v' (T-of (lt-is w hi' (r .0) v' (r .1 .is) (k .high .is)) b) in
+    let x : u' < r .0 = ltb→lt u' (r .0) (subst T (lt-is lo' w u' (r .0) (k .low .is) (r .1 .is)) a) in
+    let y : r .0 < v' = ltb→lt (r .0) v' (subst T (lt-is w hi' (r .0) v' (r .1 .is) (k .high .is)) b) in
     let c = k .shrinks (r .0) (r .1 .rep) (lt-of-le-of-lt (k .from) x) (lt-of-lt-of-le y (k .to)) in
     let o : rnd (v' - u') 1 < rnd (v - u) 1 = rnd-less (v' - u') (v - u) c (some u v (s .order)) in
     let i : rnd (v' - u') 1 ≡ rnd (v - u) 1 =
     eqb→eq (rnd (v' - u') 1) (rnd (v - u) 1)
-    (T-of (eq-is (window lo' hi') (window lo hi) (rnd (v' - u') 1) (rnd (v - u) 1)
+    (subst T (eq-is (window lo' hi') (window lo hi) (rnd (v' - u') 1) (rnd (v - u) 1)
     (window-at lo' hi' u' v' (k .low .is) (k .high .is) (k .order) (le-trans (k .to) (s .top)))
     (window-at lo hi u v (s .low .is) (s .high .is) (le-of-lt (s .order)) (s .top))) e) in
     lt-irrefl (rnd (v - u) 1) (subst (λ (z : ℕ). z < rnd (v - u) 1) i o)

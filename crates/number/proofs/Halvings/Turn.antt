@@ -2,10 +2,10 @@
 -- it, and the window is two thirds of what it was, or less, unless it repeats. Assumes nothing.
 use mathlib.Core.Path.{_≡_, refl, sym, ap, _∙_, subst}
 use mathlib.Core.Logic.{inl, inr}
+use mathlib.Core.Bool.{Bool, true, false, cond, true≢false}
 use Prim.Native.Nat.{ℕ, suc, _+_, _-_, _*_, _^_, _≤_, _<_}
 use native.Mathlib.Nat.{le-trans, le-of-eq, le-of-lt, not-le-of-lt, one-mul, mul-le-mul-right, pow-suc}
 use native.Mathlib.Omega.{arith}
-use mathlib.Core.Bool.{Bool, true, false, cond, true≢false}
 use lib.Dec.{T, lt→ltb, eqb-refl, lit<}
 use lib.Arith.{lt-of-le-ne}
 use lib.Ieee.{Float, binary32, add, lt, eq, fits, toBits}
@@ -15,9 +15,10 @@ use Rattle.number.specs.Halving.{midpoint, window, nextLower, nextUpper,
 use Rattle.number.proofs.Rounding.{rnd}
 use Rattle.number.proofs.Middle.{mid, mid-between}
 use Rattle.number.proofs.Units.{L, Is, plus, lt-is, eq-is, same-float}
+use Rattle.number.proofs.Choice.{pick}
 use Rattle.number.proofs.Plus.{mid-plus}
 use Rattle.number.proofs.Neighbours.{next-bits}
-use Rattle.number.proofs.Window.{Span, Split, Step, step-at, mid-at, window-at, T-of}
+use Rattle.number.proofs.Window.{Span, Split, Step, step-at, mid-at, window-at}
 
 -- what holds before the halving n + 1
 pub record Inv (p : Float → Bool) (n : ℕ) (lo hi : Float) : Type 0 where
@@ -38,11 +39,6 @@ halved p lo hi = go (p (midpoint lo hi))
     go : (b : Bool) → Split lo hi (cond b (midpoint lo hi) lo) (cond b hi (midpoint lo hi))
     go true = inl (refl, refl)
     go false = inr (refl, refl)
-
--- what both arms keep: a fact of the ends and of the midpoint holds of the new ends
-pick : (P : Float → Type 0) (b : Bool) (x y : Float) → P x → P y → P (cond b x y)
-pick P true x y h k = h
-pick P false x y h k = k
 
 pub side-lo : (p : Float → Bool) (lo m : Float) → p lo ≡ true → p (cond (p m) m lo) ≡ true
 side-lo p lo m h = go (p m) refl
@@ -89,18 +85,16 @@ module _ (p : Float → Bool) (n : ℕ) (lo hi : Float) (i : Inv p n lo hi) wher
       ∙ side-hi p hi (midpoint lo hi) (i .at-hi)))
 
   new-span : Span (nextLower p lo hi) (nextUpper p lo hi) (step .0) (step .1)
-  new-span =
-      record {
-        low = step .2 .low;
-        high = step .2 .high;
-        order = new-order;
-        top = le-trans (step .2 .to)
-            (i .span .top);
-      }
+  new-span = record {
+    low = step .2 .low;
+    high = step .2 .high;
+    order = new-order;
+    top = le-trans (step .2 .to) (i .span .top);
+  }
 
   pub new-lt : T (lt (nextLower p lo hi) (nextUpper p lo hi))
   new-lt =
-      T-of (sym (lt-is (nextLower p lo hi) (nextUpper p lo hi) (step .0) (step .1) (step .2 .low .is)
+      subst T (sym (lt-is (nextLower p lo hi) (nextUpper p lo hi) (step .0) (step .1) (step .2 .low .is)
       (step .2 .high .is))) (lt→ltb (step .0) (step .1) new-order)
 
   pub new-bits : ((w : Float) → T (fits binary32 w) → T (lt (nextLower p lo hi) w) → T (lt w (nextUpper p lo hi)) → ⊥)
@@ -112,13 +106,12 @@ module _ (p : Float → Bool) (n : ℕ) (lo hi : Float) (i : Inv p n lo hi) wher
   -- where the midpoint is an end, nothing moves
   still : (lo' hi' : Float) → lo' ≡ lo → hi' ≡ hi → T (eq (window lo' hi') (window lo hi))
   still lo' hi' a b =
-      let w =
-      window-at lo hi (i .u) (i .v) (i .span .low .is) (i .span .high .is) (le-of-lt (i .span .order))
-      (i .span .top) in
+      let s = i .span in
+      let w = window-at lo hi (i .u) (i .v) (s .low .is) (s .high .is) (le-of-lt (s .order)) (s .top) in
       let r = rnd (i .v - i .u) 1 in
       subst (λ (x : Float). T (eq (window x hi') (window lo hi))) (sym a)
       (subst (λ (x : Float). T (eq (window lo x) (window lo hi))) (sym b)
-      (T-of (sym (eq-is (window lo hi) (window lo hi) r r w w)) (eqb-refl r)))
+      (subst T (sym (eq-is (window lo hi) (window lo hi) r r w w)) (eqb-refl r)))
 
   at-lower : mid (i .u + i .v) ≡ i .u → T (repeats p lo hi)
   at-lower e =

@@ -1,10 +1,10 @@
 -- `round` in units of 2 ^ -149, of either sign, and what sums and differences hand to it. Assumes nothing.
 use mathlib.Core.Path.{_≡_, refl, sym, ap, _∙_, subst}
 use mathlib.Core.Logic.{inl, inr}
+use mathlib.Core.Bool.{Bool, true, false, not, cond, true≢false, false≢true}
 use Prim.Native.Nat.{ℕ, _+_, _-_, _*_, _≤_, _<_}
 use native.Mathlib.Nat.{not-le-of-lt, eq-or-lt-of-le, zero-mul, mul-one}
 use native.Mathlib.Omega.{arith}
-use mathlib.Core.Bool.{Bool, true, false, not, cond, true≢false, false≢true}
 use lib.IntN.{ℤ}
 use lib.Dec.{T, ltb, ltb→lt, lt→ltb, lit<}
 use lib.Pow.{pow-pos}
@@ -34,7 +34,8 @@ to-is-minus (fin true m e) w z h =
 pub round-units : (num den w : ℕ) → 0 < den → num * L ≡ w * den → rnd (num * L) den ≡ rnd w 1
 round-units num den w D e = rnd-same (num * L) den w 1 D (pow-pos 0) (mul-one (num * L) ∙ e)
 
-pub rounded : (num den w : ℕ) → 0 < den → num * L ≡ w * den → rnd w 1 < Top → Is (round binary32 false num den) (rnd w 1)
+pub rounded : (num den w : ℕ) → 0 < den → num * L ≡ w * den → rnd w 1 < Top
+    → Is (round binary32 false num den) (rnd w 1)
 rounded num den w D e h =
     let k = round-units num den w D e in
     subst (λ (z : ℕ). Is (round binary32 false num den) z) k
@@ -44,7 +45,8 @@ rounded num den w D e h =
 rnd-zero : rnd 0 1 ≡ 0
 rnd-zero = rnd-fix 0 1 (pow-pos 0) (0, 0, lit< tt, refl)
 
-pub rounded-minus : (num den w : ℕ) → 0 < den → num * L ≡ w * den → w ≡ 0 → Is (round binary32 true num den) (rnd w 1)
+pub rounded-minus : (num den w : ℕ) → 0 < den → num * L ≡ w * den → w ≡ 0
+    → Is (round binary32 true num den) (rnd w 1)
 rounded-minus num den w D e z =
     let k = round-units num den w D e in
     let n : rnd w 1 ≡ 0 = ap (λ (x : ℕ). rnd x 1) z ∙ rnd-zero in
@@ -88,13 +90,13 @@ sum-tf a b c h = go (ltb a b) (ltb b a) (ltb→lt b a) (lt→ltb a b)
         ]
 
 pub add-opens : (s : Bool) (m : ℕ) (e : ℤ) (t : Bool) (n : ℕ) (d : ℤ)
-    → add binary32 (fin s m e) (fin t n d) ≡ sum binary32 s (m * up e * down d) t (n * up d * down e)
-    (down e * down d)
+    → add binary32 (fin s m e) (fin t n d)
+    ≡ sum binary32 s (m * up e * down d) t (n * up d * down e) (down e * down d)
 unfolding add
 add-opens s m e t n d = refl
 
 pub sub-opens : (s : Bool) (m : ℕ) (e : ℤ) (t : Bool) (n : ℕ) (d : ℤ)
-    → sub binary32 (fin s m e) (fin t n d) ≡ sum binary32 s (m * up e * down d) (not t) (n * up d * down e)
-    (down e * down d)
+    → sub binary32 (fin s m e) (fin t n d)
+    ≡ sum binary32 s (m * up e * down d) (not t) (n * up d * down e) (down e * down d)
 unfolding sub
 sub-opens s m e t n d = refl

@@ -1,18 +1,20 @@
--- A float that is not below zero as a whole number of units of 2 ^ -149: `Is x u`. Either zero is 0 units. Comparisons of
--- such floats are those of the whole numbers. Assumes nothing.
+-- A float that is not below zero as a whole number of units of 2 ^ -149: `Is x u`. Either zero is 0 units.
+-- Comparisons of such floats are those of the whole numbers. Assumes nothing.
 use mathlib.Core.Path.{_≡_, refl, sym, ap, _∙_, subst}
 use mathlib.Core.Logic.{_⊎_, inl, inr}
+use mathlib.Core.Bool.{Bool, true, false, _&&_, _||_}
 use Prim.Native.Nat.{ℕ, _+_, _*_, _^_, _≤_, _<_}
 use native.Mathlib.Nat.{le-of-eq, le-of-lt, lt-of-lt-of-le, lt-of-le-of-lt, eq-or-lt-of-le, mul-assoc, mul-comm}
 use native.Mathlib.Nat.{mul-right-comm, mul-pos, mul-lt-mul-of-pos-right, lt-of-mul-lt-mul-right}
-use native.Mathlib.Nat.{eq-of-mul-eq-mul-right}
+use native.Mathlib.Nat.{eq-of-mul-eq-mul-right, zero-mul}
 use native.Mathlib.Omega.{arith}
-use mathlib.Core.Bool.{Bool, true, false, _&&_, _||_}
 use lib.IntN.{ℤ}
 use lib.Dec.{T, leb, ltb, eqb, leb→le, le→leb, ltb→lt, lt→ltb, eqb→eq}
 use lib.Pow.{pow-pos}
 use lib.Ieee.{Float, nan, inf, fin, up, down, lt, le, eq}
+use lib.Ieee.Scale.{finite}
 use lib.Ieee.Fits.{down-pos, eq→eqb}
+use Rattle.number.proofs.Numbers.{zero-size}
 
 abbrev pub L : ℕ
 L = 2 ^ 149
@@ -39,20 +41,20 @@ module _ (a b de dd l u v : ℕ) (D : 0 < de) (E : 0 < dd) (K : 0 < l) (p : a * 
   right =
       mul-right-comm b de l ∙ ap (λ (x : ℕ). x * de) q ∙ mul-assoc v dd de ∙ ap (λ (x : ℕ). v * x) (mul-comm dd de)
 
-  pub cross-lt : a * dd < b * de → u < v
+  cross-lt : a * dd < b * de → u < v
   cross-lt h =
       lt-of-mul-lt-mul-right (de * dd)
       (lt-of-le-of-lt (le-of-eq (sym left)) (lt-of-lt-of-le (mul-lt-mul-of-pos-right h K) (le-of-eq right)))
 
-  pub lt-cross : u < v → a * dd < b * de
+  lt-cross : u < v → a * dd < b * de
   lt-cross h =
       lt-of-mul-lt-mul-right l (lt-of-le-of-lt (le-of-eq left)
       (lt-of-lt-of-le (mul-lt-mul-of-pos-right h (mul-pos D E)) (le-of-eq (sym right))))
 
-  pub cross-eq : a * dd ≡ b * de → u ≡ v
+  cross-eq : a * dd ≡ b * de → u ≡ v
   cross-eq h = eq-of-mul-eq-mul-right (de * dd) (mul-pos D E) u v (sym left ∙ ap (λ (x : ℕ). x * l) h ∙ right)
 
-  pub eq-cross : u ≡ v → a * dd ≡ b * de
+  eq-cross : u ≡ v → a * dd ≡ b * de
   eq-cross h = eq-of-mul-eq-mul-right l K (a * dd) (b * de) (left ∙ ap (λ (x : ℕ). x * (de * dd)) h ∙ sym right)
 
   ltb-cross : ltb (a * dd) (b * de) ≡ ltb u v
@@ -65,14 +67,18 @@ module _ (a b de dd l u v : ℕ) (D : 0 < de) (E : 0 < dd) (K : 0 < l) (p : a * 
       same-test (eqb (a * dd) (b * de)) (eqb u v) (λ t. eq→eqb (cross-eq (eqb→eq (a * dd) (b * de) t)))
       (λ t. eq→eqb (eq-cross (eqb→eq u v t)))
 
+pub finite-is : (x : Float) (u : ℕ) → Is x u → T (finite x)
+finite-is (fin s m e) u i = tt
+
+-- no significand is no units
+pub none-is : (e : ℤ) → Is (fin false 0 e) 0
+none-is e = zero-size (up e) L ∙ sym (zero-mul (down e))
+
 -- the magnitude of either sign
 pub size-is : (s : Bool) (m : ℕ) (e : ℤ) (u : ℕ) → Is (fin s m e) u → m * up e * L ≡ u * down e
 size-is false m e u h = h
 size-is true m e u h =
-    ap (λ (x : ℕ). x * up e * L) (h .0) ∙ none (up e) L (down e) ∙ ap (λ (x : ℕ). x * down e) (sym (h .1))
-  where
-    none : (a b c : ℕ) → 0 * a * b ≡ 0 * c
-    none a b c = omega arith
+    ap (λ (x : ℕ). x * up e * L) (h .0) ∙ none-is e ∙ ap (λ (x : ℕ). x * down e) (sym (h .1))
 
 no-ltb : (a : ℕ) → ltb a 0 ≡ false
 no-ltb a = same-test (ltb a 0) false (λ t. none a (ltb→lt a 0 t)) (λ t. absurd t)
@@ -89,10 +95,7 @@ and-same true = refl
 and-same false = refl
 
 pub no-size : (m a b : ℕ) → m ≡ 0 → m * a * b ≡ 0
-no-size m a b e = ap (λ (x : ℕ). x * a * b) e ∙ zeros a b
-  where
-    zeros : (a b : ℕ) → 0 * a * b ≡ 0
-    zeros a b = omega arith
+no-size m a b e = ap (λ (x : ℕ). x * a * b) e ∙ zero-size a b
 
 -- ---- the comparisons
 pub lt-is : (x y : Float) (u v : ℕ) → Is x u → Is y v → lt x y ≡ ltb u v
@@ -102,24 +105,18 @@ lt-is (fin false m e) (fin false n d) u v p q =
 lt-is (fin false m e) (fin true n d) u v p q = sym (no-ltb u) ∙ ap (λ (x : ℕ). ltb u x) (sym (q .1))
 lt-is (fin true m e) (fin false n d) u v p q =
     ap (λ (x : ℕ). ltb 0 (x * up e * down d + n * up d * down e)) (p .0)
-    ∙ ap (λ (x : ℕ). ltb x (0 * up e * down d + n * up d * down e)) (sym (zeros (up e) (down d)))
+    ∙ ap (λ (x : ℕ). ltb x (0 * up e * down d + n * up d * down e)) (sym (zero-size (up e) (down d)))
     ∙ ap (λ (x : ℕ). ltb (0 * up e * down d) x) (drop (up e) (down d) (n * up d * down e))
     ∙ ltb-cross (0 * up e) (n * up d) (down e) (down d) L 0 v (down-pos e) (down-pos d) (pow-pos 149)
     (size-is true 0 e 0 (refl, refl)) q
     ∙ ap (λ (x : ℕ). ltb x v) (sym (p .1))
   where
-    zeros : (a b : ℕ) → 0 * a * b ≡ 0
-    zeros a b = omega arith
-
     drop : (a b c : ℕ) → 0 * a * b + c ≡ c
     drop a b c = omega arith
 lt-is (fin true m e) (fin true n d) u v p q =
     ap (λ (x : ℕ). ltb (n * up d * down e) (x * up e * down d)) (p .0)
-    ∙ ap (λ (x : ℕ). ltb (n * up d * down e) x) (zeros (up e) (down d)) ∙ no-ltb (n * up d * down e)
+    ∙ ap (λ (x : ℕ). ltb (n * up d * down e) x) (zero-size (up e) (down d)) ∙ no-ltb (n * up d * down e)
     ∙ sym (no-ltb u) ∙ ap (λ (x : ℕ). ltb u x) (sym (q .1))
-  where
-    zeros : (a b : ℕ) → 0 * a * b ≡ 0
-    zeros a b = omega arith
 
 pub eq-is : (x y : Float) (u v : ℕ) → Is x u → Is y v → eq x y ≡ eqb u v
 unfolding eq
@@ -177,9 +174,3 @@ le-says x y u v p q t = leb→le u v (subst T (le-is x y u v p q) t)
 
 pub says-le : (x y : Float) (u v : ℕ) → Is x u → Is y v → u ≤ v → T (le x y)
 says-le x y u v p q h = subst T (sym (le-is x y u v p q)) (le→leb u v h)
-
-pub eq-says : (x y : Float) (u v : ℕ) → Is x u → Is y v → T (eq x y) → u ≡ v
-eq-says x y u v p q t = eqb→eq u v (subst T (eq-is x y u v p q) t)
-
-pub says-eq : (x y : Float) (u v : ℕ) → Is x u → Is y v → u ≡ v → T (eq x y)
-says-eq x y u v p q h = subst T (sym (eq-is x y u v p q)) (eq→eqb h)
