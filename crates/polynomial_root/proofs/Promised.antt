@@ -31,7 +31,7 @@ use Rattle.polynomial_root.specs.Admission.{finiteQuadratic, allowedQuad
 use Rattle.polynomial_root.specs.Called.{solvedRoots, quadraticRoot, cubicRootsInRange}
 use Rattle.polynomial_root.specs.Promises.{NoneOrTwo, reach}
 use Rattle.polynomial_root.specs.declared.answer.Roots.{Roots}
-use Rattle.polynomial_root.specs.declared.newton.Cubic.{Cubic}
+use Rattle.polynomial_root.specs.declared.cubic.Cubic.{Cubic}
 use Rattle.polynomial_root.specs.declared.quadratic.Solved.{Solved}
 use Rattle.polynomial_root.specs.declared.quadratic.Solved.the-variants.{Neither, Both}
 use Rattle.polynomial_root.proofs.Orders.{test-true, zero-in-range, written-in-range}
