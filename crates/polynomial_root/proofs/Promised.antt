@@ -98,7 +98,7 @@ module _ (p : Cubic) (t epsilon : Float) (h : Allowed p t) where
       go true false = linear-holds f
       go false z = kept-holds (In t) t (λ r i. written-in-range t (h .above) r (test-true i)) roots
 
-  cubic-holds : T (fits binary32 (p .c0)) → Holds (In (reach p t)) (cubicRoots p t epsilon)
+  pub cubic-holds : T (fits binary32 (p .c0)) → Holds (In (reach p t)) (cubicRoots p t epsilon)
   unfolding cubicRoots
   cubic-holds f = go (vanishes (p .c3))
     where

@@ -3,6 +3,7 @@ ghost use mathlib.Core.Path.{_≡_};
 ghost use Rattle.polynomial_root.specs.Roots as Def;
 
 // The roots in the first `count` places, zero in the others; `refusal` 0, or the number of a refusal and no root.
+#[repr(C)]
 pub struct Roots {
     pub refusal: u32,
     pub count: u32,
