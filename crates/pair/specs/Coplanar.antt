@@ -6,7 +6,7 @@ use lib.Ieee.{Float}
 use Rattle.number.specs.Number.{_⊕_, zero32, one32}
 use Rattle.geometry.specs.Vec3.{col, minus, triple}
 use Rattle.polynomial_root.specs.declared.answer.Roots.{Roots}
-use Rattle.polynomial_root.specs.declared.newton.Cubic.{Cubic}
+use Rattle.polynomial_root.specs.declared.cubic.Cubic.{Cubic}
 use Rattle.polynomial_root.specs.Newton.{cubicOf}
 use Rattle.polynomial_root.specs.Roots.{refused}
 use Rattle.polynomial_root.specs.Called.{cubicRootsInRange}

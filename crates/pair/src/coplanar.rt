@@ -10,7 +10,7 @@ use geometry::vec3::sub;
 use polynomial_root::answer::Roots;
 use polynomial_root::answer::refused;
 use polynomial_root::cubic_roots_in_range_zero_to_t;
-use polynomial_root::newton::Cubic;
+use polynomial_root::cubic::Cubic;
 
 // The volume spanned by three edges that move, as a cubic of the time.
 fn volume(

@@ -2,7 +2,7 @@
 use mathlib.Core.Path.{_≡_, ap, _∙_}
 use borrow.Author.Needs.{needs}
 use Rattle.number.specs.Number.{zero32, one32}
-use Rattle.polynomial_root.specs.declared.newton.Cubic.{Cubic}
+use Rattle.polynomial_root.specs.declared.cubic.Cubic.{Cubic}
 use Rattle.polynomial_root.specs.Roots.{refused}
 use Rattle.polynomial_root.specs.Called.{cubicRootsInRange}
 use Rattle.pair.specs.Admission.{motionRefusal}
