@@ -1,0 +1,62 @@
+//! The Rust side of the tests. It makes calls, asks the original and a model of document 01, and judges the answers of
+//! the Rattle program (docs/TESTING.md).
+
+mod ask;
+mod calls;
+mod compare;
+mod cover;
+mod faults;
+mod freeze;
+mod generate;
+mod judge;
+mod model;
+mod sides;
+mod tally;
+
+use std::path::Path;
+use std::process::ExitCode;
+
+const USAGE: &str = "\
+oracle compare SEED CALLS [PROGRAM WORD..]  the program over pipes, held to the original and to document 01;
+                                            with no program, document 01's model held to the original
+oracle faults SEED                          the judge's own test, with planted faults
+oracle freeze FOLDER                        writes the frozen list below FOLDER
+oracle frozen FOLDER                        holds the frozen list below FOLDER to the one that freeze makes
+oracle ask FUNCTION WORD..                  one call: document 01's answer and what the original does
+oracle differences                          the same for the example of each entry of docs/DIFFERENCES.md
+oracle stand-in FAULT                       the model as a program under test
+oracle original FUNCTION WORD..             the original's answer to one call; it may stop, or not end";
+
+fn main() -> ExitCode {
+    // the original's assertions are caught, and say nothing
+    std::panic::set_hook(Box::new(|_| {}));
+    let args: Vec<String> = std::env::args().skip(1).collect();
+    let words: Vec<&str> = args.iter().map(String::as_str).collect();
+    let well = match &words[..] {
+        ["compare", seed, calls, ..] => match (seed.parse(), calls.parse()) {
+            (Ok(seed), Ok(calls)) => compare::report(seed, calls, &args[3..]),
+            _ => usage(),
+        },
+        ["faults", seed] => seed.parse().map_or_else(|_| usage(), faults::test),
+        ["freeze", folder] => freeze::freeze(Path::new(folder), true),
+        ["frozen", folder] => freeze::freeze(Path::new(folder), false),
+        ["ask", function, arguments @ ..] => ask::ask(function, &arguments.join(" ")),
+        ["differences"] => ask::differences(),
+        ["stand-in", fault] => {
+            faults::stand_in(fault);
+            true
+        }
+        ["original", function, arguments @ ..] => ask::original(function, &arguments.join(" ")),
+        _ => usage(),
+    };
+    if well {
+        ExitCode::SUCCESS
+    } else {
+        ExitCode::FAILURE
+    }
+}
+
+fn usage() -> bool {
+    eprintln!("{USAGE}");
+    false
+}
