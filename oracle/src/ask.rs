@@ -1,57 +1,54 @@
-//! One call at a time: document 01's answer, and what the original does, in a child that is ended where it does not end.
+//! One call at a time: document 01's answer, and what the original does, in a child with a limit on its time.
 
 use std::process::{Child, Command, Stdio};
 use std::thread::sleep;
 use std::time::Duration;
 
 use crate::calls::{hex, Call, Words, FUNCTIONS};
-use crate::model::Rules;
-use crate::sides::{by_model, by_original, Outcome};
+use crate::examples::EXAMPLES;
+use crate::judge::{judged, Relation, ENTRIES};
+use crate::sides::{by_original, Outcome};
 
 /// How long the original may take, in tenths of a second.
 const PATIENCE: u32 = 30;
 
-/// The least input found for each entry of docs/DIFFERENCES.md, under its heading.
-const EXAMPLES: [(&str, &str, &str); 0] = [];
-
-fn call_of(name: &str, arguments: &str) -> Option<Call> {
-    let function = FUNCTIONS.into_iter().find(|function| function.name() == name)?;
-    Some(Call::new(function, Words::from_hex(arguments)))
+/// A call from the name of its function and its words.
+fn call_of(text: &str) -> Call {
+    let (name, arguments) = text.split_once(' ').unwrap_or((text, ""));
+    let function = FUNCTIONS.into_iter().find(|function| function.name() == name);
+    Call::new(function.unwrap_or_else(|| panic!("there is no function {name}")), Words::from_hex(arguments))
 }
 
 /// Prints the original's answer.
-pub fn original(name: &str, arguments: &str) -> bool {
-    match call_of(name, arguments).map(|call| by_original(&call)) {
-        Some(Outcome::Answered(words)) => println!("{}", hex(words.as_slice())),
-        Some(Outcome::Stopped) => println!("stops"),
-        None => return false,
+pub fn original(text: &str) {
+    match by_original(&call_of(text)) {
+        Outcome::Answered(words) => println!("{}", hex(words.as_slice())),
+        Outcome::Stopped => println!("stops"),
     }
-    true
 }
 
-/// Prints a call with both answers.
-pub fn ask(name: &str, arguments: &str) -> bool {
-    let call = match call_of(name, arguments) {
-        Some(call) => call,
-        None => return false,
-    };
-    println!("{}", call.hex());
-    println!("  document 01  {}", hex(by_model(&Rules::DOCUMENT, &call).as_slice()));
-    println!("  the original {}", in_child(name, arguments));
-    true
+/// Prints a call with both answers, and answers how they stand to each other.
+pub fn ask(text: &str) -> Relation {
+    let asked = judged(call_of(text));
+    println!("{}", asked.call.hex());
+    println!("  document 01  {}", hex(asked.expected.as_slice()));
+    println!("  the original {}", in_child(text));
+    asked.relation
 }
 
+/// Prints the examples of docs/DIFFERENCES.md. Answers whether each is under the entry that it stands for.
 pub fn differences() -> bool {
-    EXAMPLES.iter().all(|(entry, function, arguments)| {
-        print!("{entry}: ");
-        ask(function, arguments)
-    })
+    let shows = |&(entry, text)| {
+        print!("{}: ", ENTRIES[entry as usize]);
+        ask(text) == Relation::Listed(entry)
+    };
+    EXAMPLES.iter().map(shows).fold(true, |so_far, this| so_far && this)
 }
 
-fn in_child(name: &str, arguments: &str) -> String {
+fn in_child(text: &str) -> String {
     let this = std::env::current_exe().expect("this program has a path");
     let mut command = Command::new(this);
-    command.arg("original").arg(name).args(arguments.split_whitespace());
+    command.arg("original").args(text.split_whitespace());
     let mut child = command.stdout(Stdio::piped()).stderr(Stdio::null()).spawn().expect("this program runs again");
     for _ in 0..PATIENCE {
         if let Ok(Some(_)) = child.try_wait() {

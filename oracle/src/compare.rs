@@ -36,7 +36,7 @@ fn run(seed: u64, calls: u64) -> Tally {
     tally
 }
 
-/// The program against both. It ends early at the first difference where `first` is set, and prints none where `quiet` is.
+/// The program against both. Where `first` is set it ends at the first difference, where `quiet` is it prints none.
 pub fn run_program(seed: u64, calls: u64, program: &[String], first: bool, quiet: bool) -> Tally {
     let mut child = start(program);
     let mut to_program = child.stdin.take().expect("standard input is a pipe");

@@ -5,6 +5,7 @@ mod ask;
 mod calls;
 mod compare;
 mod cover;
+mod examples;
 mod faults;
 mod freeze;
 mod generate;
@@ -28,8 +29,7 @@ oracle stand-in FAULT                       the model as a program under test
 oracle original FUNCTION WORD..             the original's answer to one call; it may stop, or not end";
 
 fn main() -> ExitCode {
-    // the original's assertions are caught, and say nothing
-    std::panic::set_hook(Box::new(|_| {}));
+    sides::guard();
     let args: Vec<String> = std::env::args().skip(1).collect();
     let words: Vec<&str> = args.iter().map(String::as_str).collect();
     let well = match &words[..] {
@@ -40,13 +40,16 @@ fn main() -> ExitCode {
         ["faults", seed] => seed.parse().map_or_else(|_| usage(), faults::test),
         ["freeze", folder] => freeze::freeze(Path::new(folder), true),
         ["frozen", folder] => freeze::freeze(Path::new(folder), false),
-        ["ask", function, arguments @ ..] => ask::ask(function, &arguments.join(" ")),
+        ["ask", call @ ..] => ask::ask(&call.join(" ")) != judge::Relation::Unlisted,
         ["differences"] => ask::differences(),
         ["stand-in", fault] => {
             faults::stand_in(fault);
             true
         }
-        ["original", function, arguments @ ..] => ask::original(function, &arguments.join(" ")),
+        ["original", call @ ..] => {
+            ask::original(&call.join(" "));
+            true
+        }
         _ => usage(),
     };
     if well {

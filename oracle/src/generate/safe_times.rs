@@ -54,12 +54,12 @@ impl Source {
     /// u_max for displacements: mostly their norm.
     fn speed(&mut self, dx: &Points, split: u32) -> f32 {
         let norm = Rules::DOCUMENT.norm(dx, split);
-        let speed = match self.below(64) {
-            0 => SLOWEST,
-            1 => 1.0 / SLOWEST,
-            2..=5 => self.near(norm, 2),
-            6..=8 => norm * self.pick(&[0.5, 2.0, 100.0, 1.0e6]),
-            9 => self.sized(-60, 59),
+        let speed = match self.below(192) {
+            0 | 1 => SLOWEST,
+            2 => 1.0 / SLOWEST,
+            3..=12 => self.near(norm, 2),
+            13..=20 => norm * self.pick(&[0.5, 2.0, 100.0, 1.0e6]),
+            21 => self.sized(-60, 59),
             _ => norm,
         };
         speed.max(SLOWEST).min(1.0 / SLOWEST)
