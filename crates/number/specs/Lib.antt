@@ -2,3 +2,5 @@
 pub mod Number
 pub mod Range
 pub mod Halving
+pub mod Root
+pub mod RootDigits

@@ -6,7 +6,6 @@ use lib.Ieee.{Float, nan, inf, fin, binary32, add, sub, mul, div, lt, toBits, of
 
 infixl 65 _⊕_ _⊖_
 infixl 70 _⊗_ _⊘_
-
 abbrev pub _⊕_ : Float → Float → Float
 a ⊕ b = add binary32 a b
 
@@ -28,6 +27,10 @@ half32 = ofBits binary32 0x3f00_0000
 
 abbrev pub one32 : Float
 one32 = ofBits binary32 0x3f80_0000
+
+-- the largest finite one
+abbrev pub largest32 : Float
+largest32 = ofBits binary32 0x7f7f_ffff
 
 -- the absolute value: the sign is dropped, a zero's too
 unfoldable pub size : Float → Float

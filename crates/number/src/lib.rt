@@ -3,3 +3,4 @@
 // The crate's proofs/ hold the laws of f32 that every other crate cites.
 pub mod order;
 pub mod range;
+pub mod root;

@@ -3,6 +3,13 @@
 ghost use mathlib.Core.Path.{_≡_};
 ghost use Rattle.number.specs.Range as Def;
 
+// Neither NaN nor an infinity.
+pub fn is_finite(x: f32) -> bool
+    ensures { λ r. ⌜ r ≡ Def.isFinite x ⌝ }
+{
+    (-3.4028235e38 <= x) & (x <= 3.4028235e38)
+}
+
 // Coordinates, displacements, coefficients: size at most 2^20.
 pub fn in_limit(x: f32) -> bool
     ensures { λ r. ⌜ r ≡ Def.inLimit x ⌝ }

@@ -1,0 +1,76 @@
+-- The finite f32 values: `isFinite` (specs/Range.antt) is a comparison with the largest of them, either way.
+-- Assumes nothing.
+use mathlib.Core.Path.{_≡_, refl, sym, ap, _∙_, subst}
+use mathlib.Core.Logic.{_⊎_, inl, inr}
+use Prim.Native.Nat.{ℕ, zero, suc, _+_, _*_, _^_, _≤_, _<_}
+use native.Mathlib.Nat.{le-trans, le-of-eq, le-of-lt, le-of-suc-le-suc, eq-or-lt-of-le}
+use mathlib.Core.Bool.{Bool, true, false, not, _&&_, _||_}
+use lib.Dec.{T, ltb, eqb, eqb→eq, lit<}
+use lib.IntN.{ℤ, pos}
+use lib.Ieee.{Float, nan, inf, fin, binary32, up, down, neg, lt, le, eq, fits, isNan, toBits, ofBits}
+use lib.Ieee.Bits.{is-true}
+use lib.Ieee.Fits.{eq→eqb}
+use lib.Ieee.Scale.{finite}
+use Rattle.number.specs.Number.{largest32}
+use Rattle.number.specs.Range.{isFinite, between}
+use Rattle.number.proofs.Units.{L, Is, Unit32, plus, shift, fin-false, says-le}
+use Rattle.number.proofs.Within.{not-lt-le, both}
+use Rattle.number.proofs.Sizes.{fits-plus}
+use Rattle.number.proofs.Patterns.{val, val-le, bits-are}
+use Rattle.number.proofs.Neighbours.{bits-lt, bits-val}
+
+pub is-finite : (x : Float) → isFinite x ≡ finite x
+unfolding isFinite
+is-finite nan = refl
+is-finite (inf s) = refl
+is-finite (fin s m e) = refl
+
+-- no f32 of sign plus is above the largest
+abbrev most : ℕ
+most = 0x7f7f_ffff
+
+under : (m : ℕ) (e : ℤ) → T (fits binary32 (fin false m e)) → T (le (fin false m e) largest32)
+under m e f =
+    let x = fin false m e in
+    let u = m * 2 ^ shift e in
+    let i = fin-false m e f in
+    says-le x largest32 u (val most) (i .is) (bits-are most (lit< tt))
+    (le-trans (le-of-eq (sym (bits-val x u f tt i)))
+    (val-le (toBits binary32 x) most (le-of-suc-le-suc (bits-lt x u f tt i))))
+
+-- a number of sign minus is not above one of sign plus
+minus-plus : (m : ℕ) (e : ℤ) (n : ℕ) (d : ℤ) → T (le (fin true m e) (fin false n d))
+unfolding lt isNan
+minus-plus m e n d = not-lt-le (fin false n d) (fin true m e) tt tt tt
+
+-- with either sign changed the order is turned round
+turned : (m : ℕ) (e : ℤ) (n : ℕ) (d : ℤ) → T (le (fin false m e) (fin false n d)) → T (le (fin true n d) (fin true m e))
+unfolding le
+turned m e n d h = go (ltb a b) (eqb a b) (λ t. eq→eqb (sym (eqb→eq a b t))) h
+  where
+    a : ℕ
+    a = m * up e * down d
+
+    b : ℕ
+    b = n * up d * down e
+
+    go : (p q : Bool) → (T q → T (eqb b a)) → T (p || (q && true)) → T (p || (eqb b a && true))
+    go true q f h = tt
+    go false true f h = both (eqb b a) true (f tt) tt
+    go false false f h = absurd h
+
+-- the test of `number::range::is_finite`
+pub finite-test : (x : Float) → T (fits binary32 x) → between (neg largest32) largest32 x ≡ isFinite x
+unfolding le isFinite neg ofBits
+finite-test nan f = refl
+finite-test (inf true) f = refl
+finite-test (inf false) f = refl
+finite-test (fin false m e) f =
+    let x = fin false m e in
+    is-true (between (neg largest32) largest32 x)
+    (both (le (neg largest32) x) (le x largest32) (minus-plus 16777215 (pos 104) m e) (under m e f))
+finite-test (fin true m e) f =
+    let x = fin true m e in
+    is-true (between (neg largest32) largest32 x)
+    (both (le (neg largest32) x) (le x largest32)
+    (turned m e 16777215 (pos 104) (under m e (fits-plus true m e f))) (minus-plus m e 16777215 (pos 104)))

@@ -1,0 +1,19 @@
+-- The laws of f32 that the other crates cite.
+pub mod Rounding
+pub mod Units
+pub mod Sums
+pub mod Products
+pub mod Middle
+pub mod Patterns
+pub mod NoNan
+pub mod Neighbours
+pub mod Window
+pub mod Halvings
+pub mod Within
+pub mod Signs
+pub mod Later
+pub mod Sizes
+pub mod Finite
+pub mod NextUp
+pub mod SquareRoot
+pub mod Corners

@@ -1,0 +1,46 @@
+-- Where a value is no NaN: by a program's own tests, and by a bit pattern. Assumes nothing.
+use mathlib.Core.Path.{_≡_, sym, _∙_, subst}
+use Prim.Native.Nat.{ℕ, _%_, _≤_}
+use mathlib.Core.Bool.{Bool, true, false, not, _&&_, true≢false}
+use lib.Dec.{T}
+use lib.Ieee.{Float, nan, inf, fin, binary32, binary64, ne, lt, le, fits, isNan, ofBits}
+use lib.Ieee.Bits.{ofBits-fits, nanBits-is}
+use lib.Ieee.Compare.{nan-differs}
+use lib.Ieee.Fits.{and-i, and-l, fits-widens}
+use Rattle.number.proofs.Patterns.{no-nan-bits}
+
+-- the test x != x
+pub no-nan-ne : (x : Float) → ne x x ≡ false → T (not (isNan x))
+unfolding isNan
+no-nan-ne nan h = absurd (true≢false (sym nan-differs ∙ h))
+no-nan-ne (inf s) h = tt
+no-nan-ne (fin s m e) h = tt
+
+-- any comparison that holds
+pub no-nan-lt : (x y : Float) → T (lt x y) → T (not (isNan x)) × T (not (isNan y))
+unfolding lt isNan
+no-nan-lt (inf s) (inf t) h = (tt, tt)
+no-nan-lt (inf s) (fin t n d) h = (tt, tt)
+no-nan-lt (fin s m e) (inf t) h = (tt, tt)
+no-nan-lt (fin s m e) (fin t n d) h = (tt, tt)
+
+pub no-nan-le : (x y : Float) → T (le x y) → T (not (isNan x)) × T (not (isNan y))
+unfolding le isNan
+no-nan-le (inf s) (inf t) h = (tt, tt)
+no-nan-le (inf s) (fin t n d) h = (tt, tt)
+no-nan-le (fin s m e) (inf t) h = (tt, tt)
+no-nan-le (fin s m e) (fin t n d) h = (tt, tt)
+
+pub no-nan-between : (a x b : Float) → (le a x && lt x b) ≡ true → T (not (isNan x))
+no-nan-between a x b h = no-nan-le a x (and-l (le a x) (lt x b) (subst T (sym h) tt)) .1
+
+-- a pattern that is no NaN's
+pub no-nan-of : (b : ℕ) → b % 2147483648 ≤ 2139095040 → T (not (isNan (ofBits binary32 b)))
+no-nan-of b h = subst (λ (t : Bool). T (not t)) (nanBits-is binary32 b) (no-nan-bits b h)
+
+-- and an f32 of such a pattern can be cast to an f64
+pub widens : (b : ℕ) → b % 2147483648 ≤ 2139095040
+    → T (fits binary64 (ofBits binary32 b) && not (isNan (ofBits binary32 b)))
+widens b h =
+    let x = ofBits binary32 b in
+    and-i (fits binary64 x) (not (isNan x)) (fits-widens x (ofBits-fits binary32 b)) (no-nan-of b h)

@@ -1,0 +1,9 @@
+-- The square root: the definition taken apart, the digits that the code makes, and what a reader wants to hear.
+pub mod Whole
+pub mod Digits
+pub mod Nearest
+pub mod Bits
+pub mod Argument
+pub mod Found
+pub mod Theorem
+pub mod Bounds

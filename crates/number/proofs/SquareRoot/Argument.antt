@@ -1,0 +1,141 @@
+-- The argument of the square root by its pattern: which patterns are above zero, what the definition answers elsewhere,
+-- and the number of 24 digits whose root is taken, for a normal and for a subnormal argument. Assumes nothing.
+use mathlib.Core.Path.{_≡_, refl, sym, ap, _∙_, subst}
+use mathlib.Core.Logic.{inl, inr}
+use Prim.Native.Nat.{ℕ, zero, suc, _+_, _-_, _*_, _/_, _%_, _^_, _≤_, _<_}
+use native.Mathlib.Nat.{le-trans, le-of-eq, le-of-lt, le-refl, lt-of-lt-of-le, lt-of-not-le, lt-irrefl, eq-zero-or-pos}
+use native.Mathlib.Nat.{mul-assoc, mul-one, mul-le-mul-right}
+use native.Mathlib.Omega.{arith}
+use mathlib.Core.Bool.{Bool, true, false, cond, _&&_, false≢true}
+use lib.Dec.{T, ltb, ltb→lt, lit≤}
+use lib.IntN.{ℤ}
+use lib.Pow.{pow-add, pow-mono, shl-lt, shl-exact}
+use lib.Count.{leadingZeros, leading-top}
+use lib.Ieee.{Float, nan, inf, fin, binary32, up, down, lt, fits, ofBits, toBits}
+use lib.Ieee.Bits.{ofBits-toBits}
+use Rattle.number.specs.Number.{zero32}
+use Rattle.number.specs.Range.{isFinite}
+use Rattle.number.specs.Root.{count, reaches, last, rootOf}
+use Rattle.number.proofs.Units.{L, Is, shift, fin-false}
+use Rattle.number.proofs.Patterns.{val, weight, bits-are}
+use Rattle.number.proofs.Neighbours.{bits-lt}
+use Rattle.number.proofs.SquareRoot.Nearest.{count-bits}
+
+-- ---- where the definition answers zero
+pub not-above : (x : Float) → lt zero32 x ≡ false → zero32 ≡ rootOf x
+unfolding rootOf
+not-above x h =
+    sym (ap (λ (c : Bool). cond (c && isFinite x) (ofBits binary32 (last (reaches x) 31 0)) zero32) h)
+
+pub infinite : zero32 ≡ rootOf (inf false)
+unfolding rootOf lt isFinite ofBits
+infinite = refl
+
+-- ---- the patterns of numbers above zero
+zero-not-above : (e : ℤ) → T (lt zero32 (fin false 0 e)) → ⊥
+unfolding lt ofBits
+zero-not-above e h = none (down e) (up e) (ltb→lt (0 * down e) (0 * up e * 1) h)
+  where
+    none : (a b : ℕ) → 0 * a < 0 * b * 1 → ⊥
+    none a b h = omega arith
+
+pub above-bits : (x : Float) → T (fits binary32 x) → T (lt zero32 x) → toBits binary32 x ≤ 2139095040
+unfolding lt ofBits
+above-bits (inf false) f h = unfold toBits in le-refl 2139095040
+above-bits (fin false m e) f h = le-of-lt (bits-lt (fin false m e) (m * 2 ^ shift e) f tt (fin-false m e f))
+
+module _ (x : Float) (f : T (fits binary32 x)) (a : T (lt zero32 x)) where
+  abbrev b : ℕ
+  b = toBits binary32 x
+
+  own : ofBits binary32 b ≡ x
+  own = ofBits-toBits binary32 x f
+
+  pub some-bits : 0 < b
+  unfolding lt ofBits
+  some-bits = elim (eq-zero-or-pos b) [
+    | inl e ↦ absurd (subst (λ (y : Float). T (lt zero32 y)) (sym own ∙ ap (ofBits binary32) e) a)
+    | inr l ↦ l
+  ]
+
+  -- the field of ones is the infinity's
+  pub at-top : 255 ≤ b / 8388608 → zero32 ≡ rootOf x
+  unfolding ofBits
+  at-top h =
+      let l = above-bits x f a in
+      let e : b ≡ 2139095040 = omega arith in
+      infinite ∙ ap rootOf (sym (ap (ofBits binary32) e) ∙ own)
+
+  pub finite-bits : b < 2139095040 → T (isFinite x)
+  unfolding isFinite
+  finite-bits h = go x (subst (λ (y : Float). Is y (val b)) own (bits-are b h))
+    where
+      go : (y : Float) → Is y (val b) → T (isFinite y)
+      go (fin s m e) i = tt
+
+  pub count-own : b < 2139095040 → count x ≡ val b
+  count-own h = ap count (sym own) ∙ count-bits b h
+
+  -- ---- a normal argument
+  pub scale-normal : b < 2139095040 → 0 < b / 8388608
+      → count x * L ≡ (b - weight b * 8388608) * 2 ^ (b / 8388608 + 23 + 125)
+  scale-normal h p =
+      let q = b - weight b * 8388608 in
+      ap (λ (n : ℕ). n * L) (count-own h)
+      ∙ mul-assoc q (2 ^ weight b) L
+      ∙ ap (λ (n : ℕ). q * n) (sym (pow-add 2 (weight b) 149))
+      ∙ ap (λ (n : ℕ). q * 2 ^ n) (exponents (b / 8388608) p)
+    where
+      exponents : (f : ℕ) → 0 < f → f - 1 + 149 ≡ f + 23 + 125
+      exponents f p = omega arith
+
+-- ---- a subnormal argument: the shift that brings its highest digit to the place of a normal one's
+abbrev pub lift : ℕ → ℕ
+lift d = leadingZeros 32 d - 8
+
+pub record Raised (d : ℕ) : Type 0 where
+  pub enough : 8 ≤ leadingZeros 32 d
+  pub within : lift d ≤ 23
+  pub low : 2 ^ 23 ≤ d * 2 ^ lift d
+  pub high : d * 2 ^ lift d < 2 ^ 24
+  pub exact : d * 2 ^ lift d % 4294967296 ≡ d * 2 ^ lift d
+
+pub raised : (d : ℕ) → 0 < d → d < 8388608 → Raised d
+raised d p h =
+    let t = leading-top 32 d p (omega arith) in
+    let j = t .0 in
+    let e = t .1 in
+    let J : j < 23 = lt-of-not-le (λ (g : 23 ≤ j). lt-irrefl d (lt-of-lt-of-le h (le-trans (pow-mono g) (t .2)))) in
+    let s : j + lift d ≡ 23 = omega arith in
+    let s' : suc j + lift d ≡ 24 = omega arith in
+    record {
+      enough = omega arith;
+      within = omega arith;
+      low =
+          le-trans (le-of-eq (ap (λ (n : ℕ). 2 ^ n) (sym s) ∙ pow-add 2 j (lift d)))
+          (mul-le-mul-right (2 ^ lift d) (t .2));
+      high = subst (λ (n : ℕ). d * 2 ^ lift d < 2 ^ n) s' (shl-lt (suc j) (lift d) (t .3));
+      exact = shl-exact (suc j) (lift d) 32 (t .3) (omega arith);
+    }
+
+pub scale-subnormal : (x : Float) → T (fits binary32 x) → T (lt zero32 x) → (i : ℕ) → i ≤ 23
+    → toBits binary32 x / 8388608 ≡ 0
+    → count x * L ≡ toBits binary32 x * 2 ^ i * 2 ^ (24 - i + 125)
+scale-subnormal x f a i l z =
+    let b = toBits binary32 x in
+    ap (λ (n : ℕ). n * L) (count-own x f a (omega arith) ∙ plain b z)
+    ∙ ap (λ (n : ℕ). b * 2 ^ n) (back i l)
+    ∙ ap (λ (n : ℕ). b * n) (pow-add 2 i (24 - i + 125))
+    ∙ sym (mul-assoc b (2 ^ i) (2 ^ (24 - i + 125)))
+  where
+    plain : (b : ℕ) → b / 8388608 ≡ 0 → val b ≡ b
+    plain b z = ap (λ (w : ℕ). (b - w * 8388608) * 2 ^ w) (none b z) ∙ mul-one (b - 0 * 8388608) ∙ same b
+      where
+        none : (b : ℕ) → b / 8388608 ≡ 0 → weight b ≡ 0
+        none b z = omega arith
+
+        same : (b : ℕ) → b - 0 * 8388608 ≡ b
+        same b = omega arith
+
+    back : (i : ℕ) → i ≤ 23 → 149 ≡ i + (24 - i + 125)
+    back i l = omega arith

@@ -1,0 +1,173 @@
+-- What a caller wants of the root of a positive finite x: it is an f32 of sign plus, above zero, a whole number of units
+-- nearest to the exact root (`Root` of Products), and of half the exponent's bound. Assumes nothing.
+use mathlib.Core.Path.{_≡_, refl, sym, ap, _∙_, subst}
+use Prim.Native.Nat.{ℕ, suc, _+_, _*_, _/_, _^_, _≤_, _<_, zero-le}
+use native.Mathlib.Nat.{le-trans, le-of-eq, le-of-lt, lt-of-lt-of-le, lt-of-le-of-lt, lt-irrefl, lt-of-not-le, not-le-of-lt}
+use native.Mathlib.Nat.{mul-comm, mul-one, one-mul, mul-assoc, mul-mul-mul-comm, mul-pos, mul-le-mul-right, mul-le-mul-left}
+use native.Mathlib.Omega.{arith}
+use native.Mathlib.Decide.{decLe}
+use mathlib.Core.Bool.{Bool, true, false, not, _&&_, cond}
+use lib.Dec.{T, ltb, leb, eqb, lt→ltb, lit<, lit≤}
+use lib.IntN.{pos}
+use lib.Pow.{pow-add, pow-pos, pow-mono, pow-lt, shl-lt}
+use lib.Ieee.{Float, nan, inf, fin, binary32, lt, fits, ofBits, toBits}
+use lib.Ieee.Bits.{is-true, is-false, ofBits-fits}
+use lib.Ieee.Fits.{and-i, cond-fits}
+use lib.Ieee.Scale.{finite}
+use Rattle.number.specs.Number.{zero32}
+use Rattle.number.specs.Range.{isFinite}
+use Rattle.number.specs.Root.{count, twiceRootSquared, reaches, last, rootOf}
+use Rattle.number.specs.RootDigits.{RootBits, wholeOf}
+use Rattle.number.proofs.Rounding.{Rep}
+use Rattle.number.proofs.Units.{L, Top, Is, Unit32, plus, says-lt}
+use Rattle.number.proofs.Products.{Root}
+use Rattle.number.proofs.Within.{Within, within-finite, within-units, units-within}
+use Rattle.number.proofs.Signs.{power}
+use Rattle.number.proofs.Window.{after}
+use Rattle.number.proofs.Patterns.{val, bits-are}
+use Rattle.number.proofs.SquareRoot.Nearest.{count-is}
+use Rattle.number.proofs.SquareRoot.Bits.{unit, val-is, whole-scale}
+use Rattle.number.proofs.SquareRoot.Argument.{not-above}
+use Rattle.number.proofs.SquareRoot.Found.{Found, found}
+use Rattle.number.proofs.SquareRoot.Theorem as theorem
+
+-- ---- of every x
+pub root-fits : (x : Float) → T (fits binary32 (rootOf x))
+unfolding rootOf
+root-fits x =
+    cond-fits binary32 (lt zero32 x && isFinite x) (ofBits binary32 (last (reaches x) 31 0)) zero32
+    (ofBits-fits binary32 (last (reaches x) 31 0)) (ofBits-fits binary32 0)
+
+-- ---- of a positive finite x, which is u units
+pub record RootUnits (x : Float) (u : ℕ) : Type 0 where
+  pub units : ℕ
+  pub is : Unit32 (rootOf x) units
+  pub sign : T (plus (rootOf x))
+  pub above : T (lt zero32 (rootOf x))
+  pub near : Root (u * L) units
+
+zero-is : Is zero32 0
+unfolding ofBits
+zero-is = refl
+
+real : (x : Float) (u : ℕ) → Is x u → T (isFinite x)
+unfolding isFinite
+real (fin s m e) u i = tt
+
+module _ (x : Float) (u : ℕ) (f : T (fits binary32 x)) (a : T (lt zero32 x)) (i : Is x u) where
+  abbrev r : Found x
+  r = found x f a (real x u i)
+
+  abbrev R : ℕ
+  R = val (r .b)
+
+  abbrev j : ℕ
+  j = r .k / 2 + 51
+
+  digits-are : R ≡ r .bits .digits * 2 ^ j
+  digits-are = val-is (r .p) (r .k) (r .b) (r .low) (r .high) (r .short) (r .bits)
+
+  root-units : Is (rootOf x) R
+  root-units =
+      subst (λ (y : Float). Is y R) (sym (theorem.is-root x f a (real x u i)))
+      (bits-are (r .b) (theorem.under-top x f a (real x u i)))
+
+  -- the exact root is at most a half of the last digit above
+  close : u * L * 4 ≤ (R * 2 + 2 ^ j) * (R * 2 + 2 ^ j)
+  close =
+      let q = r .bits .digits in
+      let w = 2 ^ j in
+      le-trans (le-of-eq (ap (λ (n : ℕ). n * L * 4) (sym (count-is x u i)) ∙ ap (λ (n : ℕ). n * 4) (r .scale)
+      ∙ ap (λ (n : ℕ). n * 4) (whole-scale (r .p) (r .k)) ∙ four (wholeOf (r .p) (r .k)) (w * w)))
+      (le-trans (mul-le-mul-right (w * w) (le-of-lt (r .bits .over)))
+      (le-of-eq (sym (mul-mul-mul-comm (2 * q + 1) w (2 * q + 1) w)
+      ∙ ap (λ (n : ℕ). n * n) (regroup q w ∙ ap (λ (n : ℕ). n * 2 + w) (sym digits-are)))))
+    where
+      four : (a b : ℕ) → a * b * 4 ≡ 4 * a * b
+      four a b = mul-comm (a * b) 4 ∙ sym (mul-assoc 4 a b)
+
+      regroup : (q w : ℕ) → (2 * q + 1) * w ≡ q * w * 2 + w
+      regroup q w = omega arith
+
+  small : R < Top
+  small =
+      lt-of-lt-of-le (subst (λ (n : ℕ). n < 2 ^ (24 + j)) (sym digits-are) (shl-lt 24 j (r .bits .high)))
+      (pow-mono {i = 24 + j} {j = 277} (let s = r .short in omega arith))
+
+  some : 0 < R
+  some = subst (λ (n : ℕ). 0 < n) (sym digits-are) (mul-pos (lt-of-lt-of-le (lit< tt) (r .bits .low)) (pow-pos j))
+
+  pub root-facts : RootUnits x u
+  root-facts = record {
+    units = R;
+    is = record { is = root-units; rep = (r .bits .digits, j, r .bits .high, digits-are); under = small };
+    sign = theorem.root-from x f a (real x u i) .sign;
+    above = says-lt zero32 (rootOf x) 0 R zero-is root-units some;
+    near = record { k = j; q = r .bits .digits; is = digits-are; digits = r .bits .low; low = close };
+  }
+
+-- ---- the bound: a number of at most 2 ^ (2 * a) has a root of at most 2 ^ a
+power-fits : (a : ℕ) → a ≤ 127 → T (fits binary32 (power a))
+unfolding fits
+power-fits a l = lt→ltb (1 * 2 ^ a) (2 ^ 128 * 1) (lt-of-le-of-lt (le-of-eq (one-mul (2 ^ a))) (pow-lt (room a l)))
+  where
+    room : (a : ℕ) → a ≤ 127 → a < 128
+    room a l = omega arith
+
+power-from : (a : ℕ) → a ≤ 127 → theorem.FromZero (power a)
+unfolding isFinite
+power-from a l = record { fit = power-fits a l; sign = tt; real = tt }
+
+power-count : (a : ℕ) → count (power a) ≡ 2 ^ a * L
+power-count a = count-is (power a) (2 ^ a * L) (ap (λ (n : ℕ). n * L) (one-mul (2 ^ a)) ∙ sym (mul-one (2 ^ a * L)))
+
+zero-within : (a : ℕ) → Within a zero32
+unfolding ofBits
+zero-within a = zero-le
+
+-- the square of twice the root is at most that of twice the bound
+target-le : (a : ℕ) (x : Float) (u : ℕ) → Is x u → Within (2 * a) x
+    → let w = 2 ^ a * L in twiceRootSquared x ≤ (w + w) * (w + w)
+unfolding twiceRootSquared
+target-le a x u i h =
+    let w = 2 ^ a * L in
+    le-trans (le-of-eq (ap (λ (n : ℕ). 4 * (n * L)) (count-is x u i)))
+    (le-trans (mul-le-mul-left 4 (mul-le-mul-right L (within-units (2 * a) x u i h)))
+    (le-of-eq (ap (λ (n : ℕ). 4 * (n * L * L)) (ap (λ (n : ℕ). 2 ^ n) (double a) ∙ pow-add 2 a a)
+    ∙ ap (λ (n : ℕ). 4 * n) (regroup (2 ^ a) L) ∙ four w)))
+  where
+    double : (a : ℕ) → 2 * a ≡ a + a
+    double a = omega arith
+
+    regroup : (p l : ℕ) → p * p * l * l ≡ p * l * (p * l)
+    regroup p l = mul-assoc (p * p) l l ∙ mul-mul-mul-comm p p l l
+
+    four : (w : ℕ) → 4 * (w * w) ≡ (w + w) * (w + w)
+    four w = omega arith
+
+above-within : (a : ℕ) (x : Float) → a ≤ 127 → T (fits binary32 x) → T (lt zero32 x) → Within (2 * a) x
+    → Within a (rootOf x)
+above-within a x l f p h =
+    let i = after zero32 x 0 zero-is f (within-finite (2 * a) x h) p .1 in
+    let k = root-facts x (i .0) f p (i .1 .is) in
+    let s = k .units in
+    let w = 2 ^ a * L in
+    let n = theorem.none-nearer x f p (real x (i .0) (i .1 .is)) (power a) (power-from a l) in
+    let r : count (rootOf x) ≡ s = count-is (rootOf x) s (k .is .is) in
+    let b : w < s → (s + w) * (s + w) ≤ twiceRootSquared x = rw (power-count a, r) at (n .below) in
+    units-within a (rootOf x) s (k .is .is)
+    (le-of-not-lt (λ (g : w < s).
+    not-le-of-lt g (half s w (theorem.root-le (s + w) (w + w) (le-trans (b g) (target-le a x (i .0) (i .1 .is) h))))))
+  where
+    half : (s w : ℕ) → s + w ≤ w + w → s ≤ w
+    half s w h = omega arith
+
+    le-of-not-lt : {a b : ℕ} → (a < b → ⊥) → b ≤ a
+    le-of-not-lt {a} {b} f = omega arith
+
+pub root-within : (a : ℕ) (x : Float) → a ≤ 127 → T (fits binary32 x) → Within (2 * a) x → Within a (rootOf x)
+root-within a x l f h = go (lt zero32 x) refl
+  where
+    go : (b : Bool) → lt zero32 x ≡ b → Within a (rootOf x)
+    go true e = above-within a x l f (subst T (sym e) tt) h
+    go false e = subst (Within a) (not-above x e) (zero-within a)

@@ -1,0 +1,106 @@
+-- Every positive finite f32 has the digits of its root, so the definition's search ends at them: `found`.
+-- Assumes nothing.
+use mathlib.Core.Path.{_≡_, refl, _∙_}
+use mathlib.Core.Logic.{inl, inr}
+use Prim.Native.Nat.{ℕ, zero, suc, _+_, _-_, _*_, _/_, _^_, _≤_, _<_, zero-le}
+use native.Mathlib.Nat.{lt-of-not-le, eq-zero-or-pos, eq-or-lt-of-le}
+use native.Mathlib.Omega.{arith}
+use native.Mathlib.Decide.{decLe}
+use mathlib.Core.Bool.{Bool, true, false}
+use lib.Dec.{T}
+use lib.Ieee.{Float, nan, inf, fin, binary32, lt, fits, ofBits, toBits}
+use Rattle.number.specs.Number.{zero32}
+use Rattle.number.specs.Range.{isFinite}
+use Rattle.number.specs.Root.{count, rootOf}
+use Rattle.number.specs.RootDigits.{RootBits, wholeOf}
+use Rattle.number.proofs.Units.{L, shift, fin-false}
+use Rattle.number.proofs.Patterns.{weight}
+use Rattle.number.proofs.Neighbours.{bits-lt}
+use Rattle.number.proofs.SquareRoot.Whole.{square-next}
+use Rattle.number.proofs.SquareRoot.Digits.{up, down}
+use Rattle.number.proofs.SquareRoot.Bits.{root-is}
+use Rattle.number.proofs.SquareRoot.Argument.{some-bits, scale-normal, lift, raised, scale-subnormal}
+
+-- ---- every number has a whole root and a rest
+abbrev Whole : ℕ → Type 0
+Whole n = (root : ℕ) × (rest : ℕ) × (root * root + rest ≡ n) × (rest ≤ 2 * root)
+
+whole : (n : ℕ) → Whole n
+whole zero = (0, 0, refl, zero-le)
+whole (suc n) = next (whole n)
+  where
+    next : Whole n → Whole (suc n)
+    next (r, q, e, l) = elim (eq-or-lt-of-le l) [
+      | inl f ↦ (r + 1, 0, (let s = square-next r in omega arith), zero-le)
+      | inr f ↦ (r, q + 1, omega arith, omega arith)
+    ]
+
+bits-exist : (p k : ℕ) → 2 ^ 23 ≤ p → p < 2 ^ 24 → (b : ℕ) × RootBits p k b
+bits-exist p k low high = pick (whole (wholeOf p k))
+  where
+    pick : Whole (wholeOf p k) → (b : ℕ) × RootBits p k b
+    pick (r, q, e, l) = go (decLe q r)
+      where
+        go : Dec (q ≤ r) → (b : ℕ) × RootBits p k b
+        go (yes h) = ((k / 2 + 51) * 2 ^ 23 + r, down p k low high r q e l h _ refl)
+        go (no h) = ((k / 2 + 51) * 2 ^ 23 + (r + 1), up p k low high r q e l (lt-of-not-le h) _ refl)
+
+-- ---- the digits of the root of x
+pub record Found (x : Float) : Type 0 where
+  pub p : ℕ
+  pub k : ℕ
+  pub b : ℕ
+  pub low : 2 ^ 23 ≤ p
+  pub high : p < 2 ^ 24
+  pub short : k < 300
+  pub bits : RootBits p k b
+  pub scale : count x * L ≡ p * 2 ^ (k + 125)
+
+finite-lt : (x : Float) → T (fits binary32 x) → T (lt zero32 x) → T (isFinite x) → toBits binary32 x < 2139095040
+unfolding lt isFinite ofBits
+finite-lt (fin false m e) f a h = bits-lt (fin false m e) (m * 2 ^ shift e) f tt (fin-false m e f)
+
+module _ (x : Float) (f : T (fits binary32 x)) (a : T (lt zero32 x)) (h : T (isFinite x)) where
+  abbrev own : ℕ
+  own = toBits binary32 x
+
+  subnormal : own / 8388608 ≡ 0 → Found x
+  subnormal z =
+      let s = some-bits x f a in
+      let u = raised own (omega arith) (omega arith) in
+      let r = bits-exist (own * 2 ^ lift own) (24 - lift own) (u .low) (u .high) in
+      record {
+        p = own * 2 ^ lift own;
+        k = 24 - lift own;
+        b = r .0;
+        low = u .low;
+        high = u .high;
+        short = omega arith;
+        bits = r .1;
+        scale = scale-subnormal x f a (lift own) (u .within) z;
+      }
+
+  normal : 0 < own / 8388608 → Found x
+  normal l =
+      let t = finite-lt x f a h in
+      let q = own - weight own * 8388608 in
+      let low : 2 ^ 23 ≤ q = omega arith in
+      let high : q < 2 ^ 24 = omega arith in
+      let r = bits-exist q (own / 8388608 + 23) low high in
+      record {
+        p = q;
+        k = own / 8388608 + 23;
+        b = r .0;
+        low = low;
+        high = high;
+        short = omega arith;
+        bits = r .1;
+        scale = scale-normal x f a t l;
+      }
+
+  pub found : Found x
+  found = elim (eq-zero-or-pos (own / 8388608)) [ inl z ↦ subnormal z | inr l ↦ normal l ]
+
+-- the definition names it
+pub found-root : (x : Float) (r : Found x) → T (lt zero32 x) → T (isFinite x) → rootOf x ≡ ofBits binary32 (r .b)
+found-root x r a f = root-is (r .p) (r .k) (r .b) (r .low) (r .high) (r .short) (r .bits) x (r .scale) a f

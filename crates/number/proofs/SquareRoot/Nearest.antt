@@ -1,0 +1,138 @@
+-- The definition of the square root (specs/Root.antt) taken apart: the middles grow with the patterns, so every pattern
+-- up to the nearest is reached and none after it, and the search finds it. Assumes nothing.
+use mathlib.Core.Path.{_≡_, sym, ap, _∙_, subst}
+use mathlib.Core.Logic.{_⊎_, inl, inr}
+use Prim.Native.Nat.{ℕ, zero, suc, _+_, _-_, _*_, _/_, _%_, _^_, _≤_, _<_, zero-le}
+use native.Mathlib.Nat.{lt-irrefl, le-of-eq, le-of-lt, lt-of-lt-of-le, lt-of-le-of-lt, lt-of-not-le, eq-or-lt-of-le}
+use native.Mathlib.Nat.{add-lt-add-of-le-of-lt, mul-div-cancel, mul-le-mul-left, mul-lt-mul-of-pos-right, pow-succ'}
+use native.Mathlib.Omega.{arith}
+use native.Mathlib.Decide.{decLe}
+use mathlib.Core.Bool.{Bool, true, false, cond, not, _&&_, _||_}
+use lib.Dec.{T, ltb, eqb, ltb→lt, lt→ltb, eqb→eq, not-T, T-not}
+use lib.Ieee.{Float, nan, inf, fin, binary32, down, lt, ofBits}
+use lib.Ieee.Bits.{is-true, is-false}
+use lib.Ieee.Exact.{HasValue}
+use lib.Ieee.Fits.{and-i, and-l, and-r, eq→eqb, down-pos}
+use Rattle.number.specs.Number.{zero32}
+use Rattle.number.specs.Range.{isFinite}
+use Rattle.number.specs.Root.{count, twiceMiddle, twiceRootSquared, reaches, last, rootOf}
+use Rattle.number.proofs.Units.{L, Is, size-is}
+use Rattle.number.proofs.Within.{or-l, or-r}
+use Rattle.number.proofs.Patterns.{val, val-lt, val-le, bits-are}
+
+-- ---- counts
+pub count-is : (x : Float) (u : ℕ) → Is x u → count x ≡ u
+unfolding count
+count-is (fin s m e) u h = ap (λ (n : ℕ). n / down e) (size-is s m e u h) ∙ mul-div-cancel u (down-pos e)
+
+pub count-bits : (b : ℕ) → b < 2139095040 → count (ofBits binary32 b) ≡ val b
+count-bits b h = count-is (ofBits binary32 b) (val b) (bits-are b h)
+
+-- ---- middles
+pub square-mono : (a b : ℕ) → a < b → a * a < b * b
+square-mono a b h = lt-of-le-of-lt (mul-le-mul-left a (le-of-lt h)) (mul-lt-mul-of-pos-right h (omega arith))
+
+pub middle-is : (b : ℕ) → b < 2139095040 → twiceMiddle b ≡ val (b - 1) + val b
+unfolding twiceMiddle
+middle-is b h =
+    ap (λ (n : ℕ). n + count (ofBits binary32 b)) (count-bits (b - 1) (omega arith))
+    ∙ ap (λ (n : ℕ). val (b - 1) + n) (count-bits b h)
+
+middle-lt : (b c : ℕ) → b < c → c < 2139095040 → twiceMiddle b < twiceMiddle c
+middle-lt b c h l =
+    lt-of-le-of-lt (le-of-eq (middle-is b (omega arith)))
+    (lt-of-lt-of-le (add-lt-add-of-le-of-lt (val-le (b - 1) (c - 1) (omega arith)) (val-lt b c h))
+    (le-of-eq (sym (middle-is c l))))
+
+-- ---- what the test says
+or-cases : (a b : Bool) → T (a || b) → T a ⊎ T b
+or-cases true b t = inl tt
+or-cases false b t = inr t
+
+module _ (x : Float) (b : ℕ) where
+  abbrev m : ℕ
+  m = twiceMiddle b * twiceMiddle b
+
+  abbrev n : ℕ
+  n = twiceRootSquared x
+
+  abbrev tie : Bool
+  tie = eqb m n && eqb (b % 2) 0
+
+  pub reached : T (reaches x b) → (b < 2139095040) × (m ≤ n)
+  unfolding reaches
+  reached t = (
+    ltb→lt b 2139095040 (and-l (ltb b 2139095040) (ltb m n || tie) t),
+    elim (or-cases (ltb m n) tie (and-r (ltb b 2139095040) (ltb m n || tie) t)) [
+      | inl u ↦ le-of-lt (ltb→lt m n u)
+      | inr u ↦ le-of-eq (eqb→eq m n (and-l (eqb m n) (eqb (b % 2) 0) u))
+    ],
+  )
+
+  pub reach : b < 2139095040 → m < n → T (reaches x b)
+  unfolding reaches
+  reach h l = and-i (ltb b 2139095040) (ltb m n || tie) (lt→ltb b 2139095040 h) (or-l (ltb m n) tie (lt→ltb m n l))
+
+  -- on the middle itself it is reached by the even one alone
+  pub reached-tie : T (reaches x b) → m ≡ n → b % 2 ≡ 0
+  unfolding reaches
+  reached-tie t e = elim (or-cases (ltb m n) tie (and-r (ltb b 2139095040) (ltb m n || tie) t)) [
+    | inl u ↦ absurd (lt-irrefl n (subst (λ (k : ℕ). k < n) e (ltb→lt m n u)))
+    | inr u ↦ eqb→eq (b % 2) 0 (and-r (eqb m n) (eqb (b % 2) 0) u)
+  ]
+
+  pub missed : b < 2139095040 → T (not (reaches x b)) → n ≤ m
+  missed h t = le-of-not-lt (λ (l : m < n). T-not (reaches x b) t (reach h l))
+    where
+      le-of-not-lt : {a b : ℕ} → (a < b → ⊥) → b ≤ a
+      le-of-not-lt {a} {b} f = omega arith
+
+  pub missed-tie : b < 2139095040 → T (not (reaches x b)) → m ≡ n → b % 2 ≡ 0 → ⊥
+  unfolding reaches
+  missed-tie h t e z =
+      T-not (reaches x b) t
+      (and-i (ltb b 2139095040) (ltb m n || tie) (lt→ltb b 2139095040 h)
+      (or-r (ltb m n) tie (and-i (eqb m n) (eqb (b % 2) 0) (eq→eqb e) (eq→eqb z))))
+
+-- whatever lies below a pattern that is reached is reached
+pub reaches-down : (x : Float) (b c : ℕ) → b ≤ c → T (reaches x c) → T (reaches x b)
+reaches-down x b c h t = elim (eq-or-lt-of-le h) [
+  | inl e ↦ subst (λ (d : ℕ). T (reaches x d)) (sym e) t
+  | inr l ↦
+      let r = reached x c t in
+      reach x b (lt-of-le-of-lt h (r .0))
+      (lt-of-lt-of-le (square-mono (twiceMiddle b) (twiceMiddle c) (middle-lt b c l (r .0))) (r .1))
+]
+
+-- ---- the search
+search-finds : (p : ℕ → Bool) (b : ℕ) → ((c : ℕ) → c ≤ b → T (p c)) → ((c : ℕ) → b < c → T (not (p c)))
+    → (k a : ℕ) → a ≤ b → b < a + 2 ^ k → last p k a ≡ b
+unfolding last
+search-finds p b yes· no· zero a h l = omega arith
+search-finds p b yes· no· (suc k) a h l = go (search-finds p b yes· no· k) (decLe (a + 2 ^ k) b)
+  where
+    twice : b < a + 2 ^ suc k → b < a + 2 ^ k + 2 ^ k
+    twice u = let e = pow-succ' 2 k in omega arith
+
+    by : (t : Bool) → p (a + 2 ^ k) ≡ t
+        → last p k (cond (p (a + 2 ^ k)) (a + 2 ^ k) a) ≡ last p k (cond t (a + 2 ^ k) a)
+    by t e = ap (λ (t : Bool). last p k (cond t (a + 2 ^ k) a)) e
+
+    go : ((d : ℕ) → d ≤ b → b < d + 2 ^ k → last p k d ≡ b) → Dec (a + 2 ^ k ≤ b)
+        → last p k (cond (p (a + 2 ^ k)) (a + 2 ^ k) a) ≡ b
+    go ih (yes u) = by true (is-true (p (a + 2 ^ k)) (yes· (a + 2 ^ k) u)) ∙ ih (a + 2 ^ k) u (twice l)
+    go ih (no f) =
+        by false (is-false (p (a + 2 ^ k)) (no· (a + 2 ^ k) (lt-of-not-le f))) ∙ ih a h (lt-of-not-le f)
+
+-- the pattern that is reached, where the next one is not, is the one that the search finds
+pub root-at : (x : Float) (b : ℕ) → T (lt zero32 x) → T (isFinite x) → T (reaches x b) → T (not (reaches x (b + 1)))
+    → rootOf x ≡ ofBits binary32 b
+unfolding rootOf
+root-at x b p f t n =
+    ap (λ (c : Bool). cond c (ofBits binary32 (last (reaches x) 31 0)) zero32)
+    (is-true (lt zero32 x && isFinite x) (and-i (lt zero32 x) (isFinite x) p f))
+    ∙ ap (ofBits binary32)
+    (search-finds (reaches x) b (λ c h. reaches-down x c b h t)
+    (λ c h. not-T (reaches x c) (λ (u : T (reaches x c)).
+    T-not (reaches x (b + 1)) n (reaches-down x (b + 1) c (omega arith) u)))
+    31 0 zero-le (lt-of-lt-of-le (reached x b t .0) (omega arith)))

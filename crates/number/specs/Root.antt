@@ -1,0 +1,49 @@
+-- The square root (docs/01-scope.md, "Square root and norm"): the f32 nearest to the exact root, ties to even, found by
+-- comparing whole-number squares. Definitions only.
+use Prim.Native.Nat.{ℕ, zero, suc, _+_, _-_, _*_, _/_, _%_, _^_}
+use mathlib.Core.Bool.{Bool, true, false, cond, _&&_, _||_}
+use lib.Dec.{ltb, eqb}
+use lib.Ieee.{Float, nan, inf, fin, binary32, up, down, lt, ofBits}
+use Rattle.number.specs.Number.{zero32}
+use Rattle.number.specs.Range.{isFinite}
+use Rattle.number.specs.declared.root.Rooted.{Rooted}
+use Rattle.number.specs.declared.root.Rooted.the-variants.{Root, Refused}
+
+-- the size of a finite number, counted in the smallest f32 above zero, 2 ^ -149
+unfoldable pub count : Float → ℕ
+count nan = 0
+count (inf s) = 0
+count (fin s m e) = m * up e * 2 ^ 149 / down e
+
+-- twice the middle between the f32 of pattern b - 1 and the one of pattern b
+unfoldable pub twiceMiddle : ℕ → ℕ
+unfolding count
+twiceMiddle b = count (ofBits binary32 (b - 1)) + count (ofBits binary32 b)
+
+-- the square of twice the exact root of x, in the same unit
+unfoldable pub twiceRootSquared : Float → ℕ
+unfolding count
+twiceRootSquared x = 4 * (count x * 2 ^ 149)
+
+-- b is the pattern of a finite f32 from zero up, and the exact root of x lies above the middle below that f32, or on
+-- the middle and b is even
+unfoldable pub reaches : Float → ℕ → Bool
+unfolding twiceMiddle twiceRootSquared
+reaches x b =
+    let m = twiceMiddle b * twiceMiddle b in
+    let n = twiceRootSquared x in
+    ltb b 0x7f80_0000 && (ltb m n || (eqb m n && eqb (b % 2) 0))
+
+-- the last number below b + 2 ^ k that passes a test which b passes, for a test that none passes after one that fails
+unfoldable pub last : (ℕ → Bool) → ℕ → ℕ → ℕ
+last test zero b = b
+last test (suc k) b = last test k (cond (test (b + 2 ^ k)) (b + 2 ^ k) b)
+
+-- the f32 nearest to the exact root of a positive finite x; plus zero for any other x
+unfoldable pub rootOf : Float → Float
+unfolding reaches last
+rootOf x = cond (lt zero32 x && isFinite x) (ofBits binary32 (last (reaches x) 31 0)) zero32
+
+-- what the square root answers: refusal 1 for NaN or an infinity, else 2 below zero, else the root
+unfoldable pub squareRoot : Float → Rooted
+squareRoot x = cond (isFinite x) (cond (lt x zero32) (Refused 2) (Root (rootOf x))) (Refused 1)
