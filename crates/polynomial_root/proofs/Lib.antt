@@ -1,0 +1,3 @@
+-- The laws of the root finders.
+pub mod Steps
+pub mod Corners

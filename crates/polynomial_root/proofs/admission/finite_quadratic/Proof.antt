@@ -1,0 +1,20 @@
+-- `polynomial_root::admission::finite_quadratic` meets its contract. Assumes nothing.
+use borrow.Author.Needs.{needs}
+use Rattle.polynomial_root.proofs.admission.finite_quadratic.Statement.{statement}
+use Rattle.polynomial_root.proofs.admission.finite_quadratic.Tie as tie
+
+is-finite-requires : tie.Need-is-finite-requires
+is-finite-requires c κs = search needs
+
+is-finite-requires-2 : tie.Need-is-finite-requires-2
+is-finite-requires-2 c κs = search needs
+
+is-finite-requires-3 : tie.Need-is-finite-requires-3
+is-finite-requires-3 c κs = search needs
+
+returns : tie.Need-returns
+returns c = cc
+
+pub finite-quadratic-spec : {M : Type 1} → statement M
+finite-quadratic-spec =
+    tie.close (tie.spec is-finite-requires is-finite-requires-2 is-finite-requires-3 returns)

@@ -1,0 +1,62 @@
+-- `polynomial_root::cubic_roots_in_range_zero_to_t` meets its contract, by each way through its tests. Assumes
+-- nothing.
+use borrow.Author.Needs.{needs}
+use mathlib.Core.Path.{_∙_, sym}
+use borrow.Author.Tests.{not-true, not-false}
+use Rattle.polynomial_root.specs.Called.{cubicRootsInRange}
+use Rattle.polynomial_root.proofs.cubic_roots_in_range_zero_to_t.Statement.{statement}
+use Rattle.polynomial_root.proofs.cubic_roots_in_range_zero_to_t.Tie as tie
+
+finite-cubic-requires : tie.Need-finite-cubic-requires
+finite-cubic-requires c κs = search needs
+
+refused-requires : tie.Need-refused-requires
+refused-requires c κs = search needs
+
+returns : tie.Need-returns
+unfolding cubicRootsInRange
+returns c =
+    rw (sym (c .before .before .finite-cubic .ensures) ∙ not-true _ (c .before .if1 .taken))
+    (c .refused .ensures)
+
+allowed-cubic-requires : tie.Need-allowed-cubic-requires
+allowed-cubic-requires c κs = search needs
+
+refused-requires-2 : tie.Need-refused-requires-2
+refused-requires-2 c κs = search needs
+
+returns-2 : tie.Need-returns-2
+unfolding cubicRootsInRange
+returns-2 c =
+    let f = c .before .before .before in
+    rw (
+      sym (f .before .finite-cubic .ensures) ∙ not-false _ (f .if1 .left),
+      sym (c .before .before .allowed-cubic .ensures) ∙ not-true _ (c .before .if2 .taken),
+    )
+    (c .refused2 .ensures)
+
+cubic-roots-requires : tie.Need-cubic-roots-requires
+cubic-roots-requires c κs = search needs
+
+returns-3 : tie.Need-returns-3
+unfolding cubicRootsInRange
+returns-3 c =
+    let f = c .before .before .before in
+    rw (
+      sym (f .before .finite-cubic .ensures) ∙ not-false _ (f .if1 .left),
+      sym (c .before .before .allowed-cubic .ensures) ∙ not-false _ (c .before .if2 .left),
+    )
+    (c .cubic-roots .ensures)
+
+pub cubic-roots-in-range-zero-to-t-spec : {M : Type 1} → statement M
+cubic-roots-in-range-zero-to-t-spec =
+    tie.close
+    (tie.spec
+    finite-cubic-requires
+    refused-requires
+    returns
+    allowed-cubic-requires
+    refused-requires-2
+    returns-2
+    cubic-roots-requires
+    returns-3)

@@ -1,0 +1,19 @@
+-- `polynomial_root::lower::keep` meets its contract, by either way through its test. Assumes nothing.
+use borrow.Author.Needs.{needs}
+use Rattle.polynomial_root.specs.Lower.{keep}
+use Rattle.polynomial_root.proofs.lower.keep.Statement.{statement}
+use Rattle.polynomial_root.proofs.lower.keep.Tie as tie
+
+push-requires : tie.Need-push-requires
+push-requires c κs = search needs
+
+returns : tie.Need-returns
+unfolding keep
+returns c = rw (c .before .if1 .taken) (c .push .ensures)
+
+returns-2 : tie.Need-returns-2
+unfolding keep
+returns-2 c = rw (c .if1 .left)
+
+pub keep-spec : {M : Type 1} → statement M
+keep-spec = tie.close (tie.spec push-requires returns returns-2)

@@ -1,0 +1,13 @@
+-- `polynomial_root::lower::vanishes` meets its contract. Assumes nothing.
+use borrow.Author.Needs.{needs}
+use Rattle.polynomial_root.proofs.lower.vanishes.Statement.{statement}
+use Rattle.polynomial_root.proofs.lower.vanishes.Tie as tie
+
+size-requires : tie.Need-size-requires
+size-requires c κs = search needs
+
+returns : tie.Need-returns
+returns c = cc
+
+pub vanishes-spec : {M : Type 1} → statement M
+vanishes-spec = tie.close (tie.spec size-requires returns)

@@ -1,0 +1,91 @@
+-- `polynomial_root::newton::descend` meets its contract. The loop's invariant: the steps that are left, from where the
+-- loop stands, lead where all twenty lead from the guess. Assumes nothing.
+use Prim.Native.Nat.{ℕ, suc, _≤_, _<_, _+_, _-_}
+use native.Mathlib.Omega.{arith}
+use mathlib.Core.Path.{_≡_, refl}
+use borrow.Author.Needs.{needs}
+use Rattle.polynomial_root.specs.Newton.{descend}
+use Rattle.polynomial_root.proofs.Steps.{no-step, step-stops, step-refuses, step-goes-on}
+use Rattle.polynomial_root.proofs.newton.descend.Statement.{statement}
+use Rattle.polynomial_root.proofs.newton.descend.Tie as tie
+
+abbrev Inv-loop : tie.InvT-loop
+Inv-loop p t epsilon guess r₀ i₀ r i = (i ≤ 20) × (descend p t epsilon (20 - i) r ≡ descend p t epsilon 20 guess)
+
+abbrev μ-loop : tie.MeasureT-loop
+μ-loop p t epsilon guess r₀ i₀ r i = 20 - i
+
+-- one step fewer is left
+fewer : (i : ℕ) → i < 20 → 20 - i ≡ suc (20 - (i + 1))
+fewer i h = omega arith
+
+none-left : (i : ℕ) → i ≤ 20 → 20 ≤ i → 20 - i ≡ 0
+none-left i h k = omega arith
+
+loop-holds : tie.Need-loop-holds Inv-loop μ-loop
+loop-holds c = (omega arith, refl)
+
+value-at-requires : tie.Need-value-at-requires Inv-loop μ-loop
+value-at-requires c κs = search needs
+
+size-requires : tie.Need-size-requires Inv-loop μ-loop
+size-requires c κs = search needs
+
+returns : tie.Need-returns Inv-loop μ-loop
+returns c =
+    let s = c .before .before .before .before in
+    let a = s .before .args in
+    let k = 20 - (s .loop .i + 1) in
+    cc (fewer (s .loop .i) (omega arith), step-stops (a .p) (a .t) (a .epsilon) k (s .loop .r) (cc))
+
+slope-at-requires : tie.Need-slope-at-requires Inv-loop μ-loop
+slope-at-requires c κs = search needs
+
+returns-2 : tie.Need-returns-2 Inv-loop μ-loop
+returns-2 c =
+    let s = c .before .before .before .before .before .before in
+    let a = s .before .args in
+    let k = 20 - (s .loop .i + 1) in
+    cc (fewer (s .loop .i) (omega arith), step-refuses (a .p) (a .t) (a .epsilon) k (s .loop .r) (cc) (cc))
+
+clamp-requires : tie.Need-clamp-requires Inv-loop μ-loop
+clamp-requires c κs = search needs
+
+add-i : tie.Need-add-i Inv-loop μ-loop
+add-i c = omega arith
+
+loop-less : tie.Need-loop-less Inv-loop μ-loop
+loop-less c = omega arith
+
+loop-again : tie.Need-loop-again Inv-loop μ-loop
+loop-again c =
+    let s = c .before .before .before .before .before .before .before in
+    let a = s .before .args in
+    let k = 20 - (s .loop .i + 1) in (
+      omega arith,
+      cc (fewer (s .loop .i) (omega arith), step-goes-on (a .p) (a .t) (a .epsilon) k (s .loop .r) (cc) (cc)),
+    )
+
+returns-3 : tie.Need-returns-3 Inv-loop μ-loop
+returns-3 c =
+    let s = c .before in
+    let a = s .before .args in
+    cc (none-left (s .loop .i) (omega arith) (omega arith), no-step (a .p) (a .t) (a .epsilon) (s .loop .r))
+
+pub descend-spec : {M : Type 1} → statement M
+descend-spec =
+    tie.close
+    (tie.spec
+    Inv-loop
+    μ-loop
+    loop-holds
+    value-at-requires
+    size-requires
+    returns
+    slope-at-requires
+    returns-2
+    clamp-requires
+    add-i
+    loop-less
+    loop-again
+    returns-3)

@@ -1,0 +1,13 @@
+-- `polynomial_root::span::end_at` meets its contract. Assumes nothing.
+use borrow.Author.Needs.{needs}
+use Rattle.polynomial_root.proofs.span.end_at.Statement.{statement}
+use Rattle.polynomial_root.proofs.span.end_at.Tie as tie
+
+value-at-requires : tie.Need-value-at-requires
+value-at-requires c κs = search needs
+
+returns : tie.Need-returns
+returns c = cc
+
+pub end-at-spec : {M : Type 1} → statement M
+end-at-spec = tie.close (tie.spec value-at-requires returns)

@@ -1,0 +1,44 @@
+// What the root finders answer (docs/01-scope.md, "Roots"): three places and a count stand in for the Vec.
+ghost use mathlib.Core.Path.{_≡_};
+ghost use Rattle.polynomial_root.specs.Roots as Def;
+
+// The roots in the first `count` places, zero in the others; `refusal` 0, or the number of a refusal and no root.
+pub struct Roots {
+    pub refusal: u32,
+    pub count: u32,
+    pub roots: [f32; 3],
+}
+
+pub fn refused(number: u32) -> Roots
+    ensures { λ r. ⌜ r ≡ Def.refused number ⌝ }
+{
+    Roots {
+        refusal: number,
+        count: 0,
+        roots: [0.0; 3],
+    }
+}
+
+// A root as it is answered: a zero of either sign is written plus zero.
+pub fn written(r: f32) -> f32
+    ensures { λ w. ⌜ w ≡ Def.written r ⌝ }
+{
+    if r == 0.0 { 0.0 } else { r }
+}
+
+// One root more, in the next place; a full answer stands.
+pub fn push(a: Roots, r: f32) -> Roots
+    ensures { λ b. ⌜ b ≡ Def.push a r ⌝ }
+{
+    let n = a.count;
+    if 3 <= n {
+        return a;
+    }
+    let mut roots = a.roots;
+    roots[n as usize] = written(r);
+    Roots {
+        refusal: a.refusal,
+        count: n + 1,
+        roots,
+    }
+}

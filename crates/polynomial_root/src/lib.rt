@@ -1,0 +1,57 @@
+// Roots of polynomials of degree two and three (polynomial_root.rs; docs/01-scope.md, "Roots"). The two functions here
+// refuse what is out of range; the modules hold what they rest on, for any numbers.
+pub mod admission;
+pub mod answer;
+pub mod cubic;
+pub mod lower;
+pub mod newton;
+pub mod quadratic;
+pub mod span;
+
+ghost use mathlib.Core.Path.{_≡_};
+ghost use Rattle.polynomial_root.specs.Newton.{cubicOf};
+ghost use Rattle.polynomial_root.specs.Called.{quadraticRoot, cubicRootsInRange};
+use admission::allowed_cubic;
+use admission::allowed_quadratic;
+use admission::finite_cubic;
+use admission::finite_quadratic;
+use answer::Roots;
+use answer::refused;
+use newton::Cubic;
+
+// The roots of c0 + c1 x + c2 x²: none or two, the smaller first. Refusals 1, 2, 9.
+pub fn quadratic_root(c0: f32, c1: f32, c2: f32) -> Roots
+    ensures { λ r. ⌜ r ≡ quadraticRoot c0 c1 c2 ⌝ }
+{
+    if !finite_quadratic(c0, c1, c2) {
+        return refused(1);
+    }
+    if !allowed_quadratic(c0, c1, c2) {
+        return refused(2);
+    }
+    if c2 == 0.0 {
+        return refused(9);
+    }
+    quadratic::all_roots(quadratic::solve(c0, c1, c2))
+}
+
+// The roots in 0..t of c0 + c1 x + c2 x² + c3 x³, in the order of the spans. Refusals 1, 2, 6, 7, 8.
+pub fn cubic_roots_in_range_zero_to_t(
+    c0: f32,
+    c1: f32,
+    c2: f32,
+    c3: f32,
+    t: f32,
+    epsilon: f32,
+) -> Roots
+    ensures { λ r. ⌜ r ≡ cubicRootsInRange (cubicOf c0 c1 c2 c3) t epsilon ⌝ }
+{
+    let p = Cubic { c0, c1, c2, c3 };
+    if !finite_cubic(p, t, epsilon) {
+        return refused(1);
+    }
+    if !allowed_cubic(p, t, epsilon) {
+        return refused(2);
+    }
+    cubic::cubic_roots(p, t, epsilon)
+}

@@ -1,0 +1,53 @@
+// Newton's steps on a cubic (polynomial_root.rs, `eval_f` and the loop of `newton`).
+ghost use mathlib.Core.Path.{_≡_};
+ghost use Rattle.polynomial_root.specs.Newton as Def;
+use number::order::clamp;
+use number::order::size;
+
+// c0 + c1 x + c2 x² + c3 x³
+pub struct Cubic {
+    pub c0: f32,
+    pub c1: f32,
+    pub c2: f32,
+    pub c3: f32,
+}
+
+// What a search for one root gives: the root, none, or the number of a refusal.
+pub enum Found {
+    Root(f32),
+    Nothing,
+    Refused(u32),
+}
+
+pub fn value_at(p: Cubic, r: f32) -> f32
+    ensures { λ v. ⌜ v ≡ Def.valueAt p r ⌝ }
+{
+    ((p.c3 * r + p.c2) * r + p.c1) * r + p.c0
+}
+
+pub fn slope_at(p: Cubic, r: f32) -> f32
+    ensures { λ v. ⌜ v ≡ Def.slopeAt p r ⌝ }
+{
+    p.c1 + 2.0 * p.c2 * r + 3.0 * p.c3 * r * r
+}
+
+// At most twenty steps from r, held to 0..t, until the value's size is below epsilon.
+pub fn descend(p: Cubic, t: f32, epsilon: f32, guess: f32) -> Found
+    ensures { λ f. ⌜ f ≡ Def.descend p t epsilon 20 guess ⌝ }
+{
+    let mut r = guess;
+    let mut i: u32 = 0;
+    while i < 20 {
+        let f = value_at(p, r);
+        if size(f) < epsilon {
+            return Found::Root(r);
+        }
+        let d = slope_at(p, r);
+        if (f == 0.0) & (d == 0.0) {
+            return Found::Refused(8);
+        }
+        r = clamp(r - f / d, 0.0, t);
+        i += 1;
+    }
+    Found::Root(r)
+}
