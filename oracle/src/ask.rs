@@ -4,7 +4,7 @@ use std::process::{Child, Command, Stdio};
 use std::thread::sleep;
 use std::time::Duration;
 
-use crate::calls::{hex, Call, Words, FUNCTIONS};
+use crate::calls::{hex, Call, Function, Words};
 use crate::examples::EXAMPLES;
 use crate::judge::{judged, Relation, ENTRIES};
 use crate::sides::{by_original, Outcome};
@@ -15,8 +15,7 @@ const PATIENCE: u32 = 30;
 /// A call from the name of its function and its words.
 fn call_of(text: &str) -> Call {
     let (name, arguments) = text.split_once(' ').unwrap_or((text, ""));
-    let function = FUNCTIONS.into_iter().find(|function| function.name() == name);
-    Call::new(function.unwrap_or_else(|| panic!("there is no function {name}")), Words::from_hex(arguments))
+    Call::new(Function::named(name), Words::from_hex(arguments))
 }
 
 /// Prints the original's answer.

@@ -44,6 +44,11 @@ impl Function {
         self as u32 + 1
     }
 
+    pub fn named(name: &str) -> Function {
+        let found = FUNCTIONS.into_iter().find(|function| function.name() == name);
+        found.unwrap_or_else(|| panic!("there is no function {name}"))
+    }
+
     pub fn name(self) -> &'static str {
         match self {
             Function::SquareRoot => "square_root",

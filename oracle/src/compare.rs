@@ -5,39 +5,52 @@ use std::process::{Child, Command, Stdio};
 use std::sync::mpsc::{sync_channel, Receiver};
 use std::thread;
 
-use crate::calls::{answer_from, Packer};
+use crate::calls::{answer_from, Call, Function, Packer};
 use crate::generate::Source;
 use crate::judge::{judged, Judged};
 use crate::tally::Tally;
 
+/// Which calls a run makes: so many from a seed, of the functions named alone where some are.
+pub struct Plan {
+    pub seed: u64,
+    pub calls: u64,
+    pub only: Vec<Function>,
+}
+
+impl Plan {
+    fn calls(&self) -> impl Iterator<Item = Call> + '_ {
+        let mut source = Source::new(self.seed);
+        let chosen = move |call: &Call| self.only.is_empty() || self.only.contains(&call.function);
+        (0..self.calls).map(move |_| source.call()).filter(chosen)
+    }
+}
+
 /// How many blocks may be under way.
 const UNDER_WAY: usize = 8;
 
-/// A run with what it met printed. Answers whether all is well: no difference, and nothing left out.
-pub fn report(seed: u64, calls: u64, program: &[String]) -> bool {
-    let tally = if program.is_empty() { run(seed, calls) } else { run_program(seed, calls, program, false, false) };
+/// A run with what it met printed. Answers whether all is well: no difference, and nothing left out that a run of every
+/// function can meet.
+pub fn report(plan: &Plan, program: &[String]) -> bool {
+    let tally = if program.is_empty() { run(plan) } else { run_program(plan, program, false, false) };
     tally.print();
-    let missing = tally.missing();
+    let missing = if plan.only.is_empty() { tally.missing() } else { Vec::new() };
     for what in &missing {
         println!("NOT MET: {what}");
     }
     let differences = tally.differences();
-    println!("seed {seed}, {} calls: {differences} differences, {} not met", tally.calls(), missing.len());
+    println!("seed {}, {} calls: {differences} differences, {} not met", plan.seed, tally.calls(), missing.len());
     differences == 0 && missing.is_empty()
 }
 
 /// The original against document 01's model, with no program.
-fn run(seed: u64, calls: u64) -> Tally {
-    let mut source = Source::new(seed);
+fn run(plan: &Plan) -> Tally {
     let mut tally = Tally::new();
-    for _ in 0..calls {
-        tally.note(&judged(source.call()));
-    }
+    plan.calls().for_each(|call| tally.note(&judged(call)));
     tally
 }
 
 /// The program against both. Where `first` is set it ends at the first difference, where `quiet` is it prints none.
-pub fn run_program(seed: u64, calls: u64, program: &[String], first: bool, quiet: bool) -> Tally {
+pub fn run_program(plan: &Plan, program: &[String], first: bool, quiet: bool) -> Tally {
     let mut child = start(program);
     let mut to_program = child.stdin.take().expect("standard input is a pipe");
     let from_program = child.stdout.take().expect("standard output is a pipe");
@@ -53,11 +66,10 @@ pub fn run_program(seed: u64, calls: u64, program: &[String], first: bool, quiet
     });
     let reader = thread::spawn(move || hold_all(from_program, all_judged, first, quiet));
 
-    let mut source = Source::new(seed);
     let mut packer = Packer::new();
     let mut of_block = Vec::new();
-    for _ in 0..calls {
-        let this = judged(source.call());
+    for call in plan.calls() {
+        let this = judged(call);
         if let Some(block) = packer.take(&this.call) {
             let sent = send_judged.send(std::mem::take(&mut of_block)).is_ok() && send_block.send(block).is_ok();
             if !sent {

@@ -93,11 +93,12 @@ pub fn stand_in(name: &str) {
 pub fn test(seed: u64) -> bool {
     let this = std::env::current_exe().expect("this program has a path");
     let this = this.to_str().expect("its path is text").to_string();
+    let plan = compare::Plan { seed, calls: CALLS, only: Vec::new() };
     let mut well = true;
     for fault in std::iter::once(&NONE).chain(&FAULTS) {
         let program = [this.clone(), "stand-in".to_string(), fault.name.to_string()];
         let quiet = fault.name != NONE.name;
-        let tally = compare::run_program(seed, CALLS, &program, quiet, quiet);
+        let tally = compare::run_program(&plan, &program, quiet, quiet);
         let caught = tally.differences() > 0;
         let right = caught == quiet;
         let verdict = match (caught, right) {
