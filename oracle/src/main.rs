@@ -11,6 +11,7 @@ mod freeze;
 mod generate;
 mod judge;
 mod model;
+mod outside;
 mod sides;
 mod tally;
 

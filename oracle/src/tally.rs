@@ -1,9 +1,10 @@
 //! What a run met: calls and refusals of each function, kinds of safe times, branches, entries of the differences; and
 //! the differences that no entry has.
 
-use crate::calls::{hex, Function, Words, FUNCTIONS};
+use crate::calls::{hex, Function, Words, FUNCTIONS, MOST};
 use crate::cover;
 use crate::judge::{refusal_of, Judged, Relation, ENTRIES};
+use crate::outside::{only_outside, ways, WAYS};
 use crate::sides::KINDS;
 
 /// The refusals that each function can give, besides an answer.
@@ -23,6 +24,8 @@ pub struct Tally {
     kinds: [u64; 5],
     branches: Vec<u64>,
     entries: Vec<u64>,
+    /// by function, place and way
+    outside: Vec<[[u64; WAYS.len()]; MOST]>,
     most_halvings: u32,
     differences: u64,
     /// how many differences are printed
@@ -36,6 +39,7 @@ impl Tally {
             kinds: [0; 5],
             branches: vec![0; cover::NAMES.len()],
             entries: vec![0; ENTRIES.len()],
+            outside: vec![[[0; WAYS.len()]; MOST]; FUNCTIONS.len()],
             most_halvings: 0,
             differences: 0,
             shown: 10,
@@ -57,6 +61,9 @@ impl Tally {
         }
         for (i, count) in self.branches.iter_mut().enumerate() {
             *count += (judged.branches >> i & 1) as u64;
+        }
+        if let Some((place, way)) = only_outside(&judged.call) {
+            self.outside[judged.call.function as usize][place][way] += 1;
         }
         match judged.relation {
             Relation::Same => {}
@@ -122,7 +129,21 @@ impl Tally {
         missing.extend(named(&KINDS, &self.kinds));
         missing.extend(named(cover::NAMES, &self.branches));
         missing.extend(named(ENTRIES, &self.entries));
+        for function in FUNCTIONS {
+            for (place, way, count) in self.outside_of(function) {
+                if count == 0 {
+                    missing.push(format!("{}: argument {place} alone {}", function.name(), WAYS[way]));
+                }
+            }
+        }
         missing
+    }
+
+    /// Each place and way of a function with how often it was met alone.
+    fn outside_of(&self, function: Function) -> impl Iterator<Item = (usize, usize, u64)> + '_ {
+        let counts = &self.outside[function as usize];
+        let at = move |place: usize| ways(function, place).iter().map(move |&way| (place, way, counts[place][way]));
+        (0..function.arguments()).flat_map(at)
     }
 
     pub fn print(&self) {
@@ -134,6 +155,8 @@ impl Tally {
         }
         let kinds: Vec<String> = KINDS.iter().zip(&self.kinds).map(|(name, n)| format!("{name}: {n}")).collect();
         println!("safe times, {}; most halvings: {}", kinds.join(", "), self.most_halvings);
+        let least = FUNCTIONS.iter().flat_map(|&function| self.outside_of(function)).map(|(_, _, count)| count).min();
+        println!("each argument alone NaN, infinite, below and above its range: {} times or more", least.unwrap_or(0));
         println!("branches met, in calls:");
         for (name, count) in cover::NAMES.iter().zip(&self.branches) {
             println!("{count:>10} {name}");

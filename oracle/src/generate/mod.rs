@@ -1,5 +1,5 @@
-//! Calls of every public function, from one seed: each from a family that finds faults, and one in twelve with a number
-//! that is not allowed.
+//! Calls of every public function, from one seed: each from a family that finds faults, and one in twelve, or one in three
+//! of the functions that are called seldom, with something that is not allowed.
 
 mod numbers;
 mod pairs;
@@ -11,6 +11,7 @@ pub use numbers::Source;
 
 use crate::calls::{Call, Function, Words, NAN};
 use crate::model::Points;
+use crate::outside::{allowed, Allowed};
 use numbers::{neighbour, power_of_two};
 
 /// How many of a thousand calls are of each function, in the order of their numbers.
@@ -31,7 +32,7 @@ impl Source {
     /// The next call of one function.
     pub fn call_of(&mut self, function: Function) -> Call {
         let mut call = Call::new(function, self.allowed(function));
-        if self.once_in(12) {
+        if self.once_in(if SHARES[function as usize] < 50 { 3 } else { 12 }) {
             self.spoil(&mut call);
         }
         call
@@ -165,38 +166,20 @@ impl Source {
         Words::new().points(&motion.x).points(&motion.dx).numbers(&[max_t])
     }
 
-    /// Puts a number that is not allowed into one place, or into two.
+    /// Puts something that is not allowed into one place, or into two.
     fn spoil(&mut self, call: &mut Call) {
         for _ in 0..self.between(1, 2) {
             let place = self.below(call.function.arguments() as u32) as usize;
-            let is_split = match call.function {
-                Function::SquaredDistance | Function::MaxRelativeNorm => place == 12,
-                Function::SafeTime => place == 24,
-                _ => false,
-            };
-            let word = if is_split {
-                self.pick(&[0, 1, 4, 5, 258, 0x8000_0002, u32::MAX])
-            } else {
-                self.outside(call.function, place)
+            let word = match allowed(call.function, place) {
+                Allowed::Split => self.pick(&[0, 1, 4, 5, 258, 0x8000_0002, u32::MAX]),
+                Allowed::Number(low, high) => self.beyond(low, high),
             };
             call.arguments.set(place, word);
         }
     }
 
-    /// A NaN, an infinity, or a number beyond the range of its place: often the first beyond it.
-    fn outside(&mut self, function: Function, place: usize) -> u32 {
-        let limit = 1_048_576.0;
-        let fastest = 1_152_921_504_606_846_976.0;
-        let (low, high) = match (function, place) {
-            (Function::SquareRoot, _) => (0.0, f32::MAX),
-            (Function::Lerp, 6) | (Function::AddScaled | Function::Normalize, 24) | (Function::SafeTime, 27) => {
-                (0.0, 1.0)
-            }
-            (Function::CubicRoots, 4) => (1.0e-45, 1.0),
-            (Function::ScaleInPlace, 12) | (Function::CubicRoots, 5) | (Function::SafeTime, 25 | 26) => (0.0, limit),
-            (Function::SafeTime, 28) => (1.0 / fastest, fastest),
-            _ => (-limit, limit),
-        };
+    /// A NaN, an infinity, or a number beyond a range: often the first beyond it.
+    fn beyond(&mut self, low: f32, high: f32) -> u32 {
         let infinity = f32::INFINITY.to_bits();
         match self.below(8) {
             0 => NAN,
