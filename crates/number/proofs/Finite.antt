@@ -1,20 +1,18 @@
 -- The finite f32 values: `isFinite` (specs/Range.antt) is a comparison with the largest of them, either way.
 -- Assumes nothing.
-use mathlib.Core.Path.{_≡_, refl, sym, ap, _∙_, subst}
-use mathlib.Core.Logic.{_⊎_, inl, inr}
-use Prim.Native.Nat.{ℕ, zero, suc, _+_, _*_, _^_, _≤_, _<_}
-use native.Mathlib.Nat.{le-trans, le-of-eq, le-of-lt, le-of-suc-le-suc, eq-or-lt-of-le}
-use mathlib.Core.Bool.{Bool, true, false, not, _&&_, _||_}
-use lib.Dec.{T, ltb, eqb, eqb→eq, lit<}
+use mathlib.Core.Path.{_≡_, refl, sym}
+use Prim.Native.Nat.{ℕ, _*_, _^_}
+use native.Mathlib.Nat.{le-trans, le-of-eq, le-of-suc-le-suc}
+use mathlib.Core.Bool.{true, false}
+use lib.Dec.{T, lit<}
 use lib.IntN.{ℤ, pos}
-use lib.Ieee.{Float, nan, inf, fin, binary32, up, down, neg, lt, le, eq, fits, isNan, toBits, ofBits}
+use lib.Ieee.{Float, nan, inf, fin, binary32, neg, le, fits, toBits, ofBits}
 use lib.Ieee.Bits.{is-true}
-use lib.Ieee.Fits.{eq→eqb}
 use lib.Ieee.Scale.{finite}
 use Rattle.number.specs.Number.{largest32}
 use Rattle.number.specs.Range.{isFinite, between}
-use Rattle.number.proofs.Units.{L, Is, Unit32, plus, shift, fin-false, says-le}
-use Rattle.number.proofs.Within.{not-lt-le, both}
+use Rattle.number.proofs.Units.{shift, fin-false, says-le}
+use Rattle.number.proofs.Comparing.{both, minus-plus, turned}
 use Rattle.number.proofs.Sizes.{fits-plus}
 use Rattle.number.proofs.Patterns.{val, val-le, bits-are}
 use Rattle.number.proofs.Neighbours.{bits-lt, bits-val}
@@ -37,27 +35,6 @@ under m e f =
     says-le x largest32 u (val most) (i .is) (bits-are most (lit< tt))
     (le-trans (le-of-eq (sym (bits-val x u f tt i)))
     (val-le (toBits binary32 x) most (le-of-suc-le-suc (bits-lt x u f tt i))))
-
--- a number of sign minus is not above one of sign plus
-minus-plus : (m : ℕ) (e : ℤ) (n : ℕ) (d : ℤ) → T (le (fin true m e) (fin false n d))
-unfolding lt isNan
-minus-plus m e n d = not-lt-le (fin false n d) (fin true m e) tt tt tt
-
--- with either sign changed the order is turned round
-turned : (m : ℕ) (e : ℤ) (n : ℕ) (d : ℤ) → T (le (fin false m e) (fin false n d)) → T (le (fin true n d) (fin true m e))
-unfolding le
-turned m e n d h = go (ltb a b) (eqb a b) (λ t. eq→eqb (sym (eqb→eq a b t))) h
-  where
-    a : ℕ
-    a = m * up e * down d
-
-    b : ℕ
-    b = n * up d * down e
-
-    go : (p q : Bool) → (T q → T (eqb b a)) → T (p || (q && true)) → T (p || (eqb b a && true))
-    go true q f h = tt
-    go false true f h = both (eqb b a) true (f tt) tt
-    go false false f h = absurd h
 
 -- the test of `number::range::is_finite`
 pub finite-test : (x : Float) → T (fits binary32 x) → between (neg largest32) largest32 x ≡ isFinite x

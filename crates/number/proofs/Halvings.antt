@@ -1,26 +1,26 @@
 -- The halving as a whole, over a test `p` that is true at the lower end and false at the upper one: it stops after at most 255 halvings, at neighbours. Assumes nothing.
 use mathlib.Core.Path.{_≡_, refl, sym, ap, _∙_, subst}
 use mathlib.Core.Logic.{_⊎_, inl, inr}
-use Prim.Native.Nat.{ℕ, zero, suc, _+_, _-_, _*_, _^_, _≤_, _<_, zero-le}
-use native.Mathlib.Nat.{le-refl, le-trans, le-of-eq, le-of-lt, lt-of-lt-of-le, lt-of-le-of-lt, lt-irrefl, not-le-of-lt, one-mul, mul-one, mul-le-mul-right, pow-suc}
+use Prim.Native.Nat.{ℕ, zero, suc, _+_, _-_, _*_, _^_, _≤_, _<_}
+use native.Mathlib.Nat.{le-trans, le-of-eq, le-of-lt, not-le-of-lt, one-mul, mul-le-mul-right, pow-suc}
 use native.Mathlib.Omega.{arith}
-use native.Mathlib.Decide.{ℕ-discrete}
-use mathlib.Core.Bool.{Bool, true, false, not, cond, true≢false, false≢true}
-use lib.Dec.{T, ltb, eqb, lt→ltb, eqb-refl, lit<, lit≤}
-use lib.Pow.{pow-pos}
+use mathlib.Core.Bool.{Bool, true, false, cond, true≢false}
+use lib.Dec.{T, ltb, lt→ltb, eqb-refl, lit<}
 use lib.Arith.{lt-of-le-ne}
 use native.Mathlib.Numerals.{add-one}
 use lib.Ieee.Order.{drop, kept}
-use lib.Ieee.{Float, nan, inf, fin, binary32, up, down, round, units, odd, add, sub, mul, lt, le, eq, fits, toBits, ofBits}
-use lib.Ieee.Fits.{add-fits, sub-fits, mul-fits, round-is, eq→eqb}
-use Rattle.number.specs.Number.{zero32, half32, one32}
+use lib.Ieee.{Float, inf, fin, binary32, up, down, round, units, odd, add, mul, lt, le, eq, fits, toBits, ofBits}
+use lib.Ieee.Fits.{mul-fits, round-is}
+use Rattle.number.specs.Number.{zero32, half32, one32, nextUp}
 use Rattle.number.specs.Halving.{midpoint, window, nextLower, nextUpper, repeats, Halved, halve}
-use Rattle.number.proofs.Rounding.{rnd, Rep, rnd-rep}
+use Rattle.number.proofs.Rounding.{rnd}
 use Rattle.number.proofs.Middle.{mid, mid-between}
-use Rattle.number.proofs.Units.{L, Is, Unit32, plus, lt-is, eq-is, same-float, no-size}
+use Rattle.number.proofs.Units.{L, Is, plus, lt-is, eq-is, same-float, no-size}
 use Rattle.number.proofs.Sums.{add-opens, sum-ff, sum-ft, half-opens, none-le}
-use Rattle.number.proofs.Neighbours.{next-bits}
-use Rattle.number.proofs.Window.{Span, span-of, Split, Step, step-at, mid-at, window-at, neighbours, after, high-finite, T-of}
+use Rattle.number.proofs.Neighbours.{after, next-bits}
+use Rattle.number.proofs.NextUp.{finite-is, next-of}
+use Rattle.number.proofs.Window.{Span, span-of, Split, Step, step-at, mid-at, window-at, neighbours}
+use Rattle.number.proofs.Window.{high-finite, T-of}
 
 -- ---- `round` with the sign plus
 odd-plus : (d q k l : ℕ) → T (plus (odd d false q k l))
@@ -191,6 +191,7 @@ pub record Ends (p : Float → Bool) (r : Halved) : Type 0 where
   pub false-above : p (r .upper) ≡ false
   pub in-order : T (lt (r .lower) (r .upper))
   pub next-up : toBits binary32 (r .upper) ≡ suc (toBits binary32 (r .lower))
+  pub is-next : r .upper ≡ nextUp (r .lower)
   pub none-between : (w : Float) → T (fits binary32 w) → T (lt (r .lower) w) → T (lt w (r .upper)) → ⊥
 
 ends-from : (p : Float → Bool) (k n : ℕ) (lo hi : Float) → n + k ≡ 255 → Inv p n lo hi → Ends p (halve p k n lo hi)
@@ -222,6 +223,7 @@ ends-from p (suc k) n lo hi e i = go (repeats p lo hi) refl (ends-from p k (suc 
       false-above = side-hi p hi (midpoint lo hi) (i .at-hi);
       in-order = new-lt p n lo hi i;
       next-up = new-bits p n lo hi i (none t);
+      is-next = next-of (nextLower p lo hi) (nextUpper p lo hi) (finite-is (nextLower p lo hi) (step p n lo hi i .0) (step p n lo hi i .2 .low .is)) (new-plus-lo p n lo hi i) (new-fit-hi p n lo hi i) (new-bits p n lo hi i (none t));
       none-between = none t;
     }
     go false t ih = ih (next p n lo hi i (λ (y : T (repeats p lo hi)). subst T t y))

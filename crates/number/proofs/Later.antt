@@ -3,11 +3,10 @@ use mathlib.Core.Path.{_≡_, refl, sym, ap, _∙_, subst}
 use Prim.Native.Nat.{ℕ, _+_, _-_, _*_, _^_, _≤_, _<_, zero-le}
 use native.Mathlib.Nat.{le-trans, le-of-eq, mul-one, mul-le-mul-right, le-add-right, not-le-of-lt, add-mul, mul-pos}
 use native.Mathlib.Omega.{arith}
-use mathlib.Core.Bool.{Bool, true, false, not, cond}
-use lib.Dec.{T, ltb, le→leb, leb, leb→le, lit<, ltb→lt, nltb→le}
+use mathlib.Core.Bool.{Bool, true, false, cond}
+use lib.Dec.{T, ltb, le→leb, ltb→lt}
 use lib.Pow.{pow-pos}
-use lib.IntN.{pos}
-use lib.Ieee.{Float, nan, inf, fin, binary32, up, down, round, units, odd, sum, add, lt, le, fits, ofBits}
+use lib.Ieee.{Float, nan, inf, fin, binary32, up, down, round, units, odd, sum, add, le, fits, ofBits}
 use native.Mathlib.Decide.{decLt}
 use lib.Ieee.Fits.{round-is, down-pos}
 use lib.Ieee.Scale.{finite}

@@ -9,11 +9,14 @@ pub mod NoNan
 pub mod Neighbours
 pub mod Window
 pub mod Halvings
+pub mod Comparing
+pub mod Choice
 pub mod Within
 pub mod Signs
 pub mod Later
 pub mod Sizes
 pub mod Finite
+pub mod Ranges
 pub mod NextUp
 pub mod SquareRoot
 pub mod Corners

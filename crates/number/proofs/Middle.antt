@@ -2,15 +2,16 @@
 -- Assumes nothing.
 use mathlib.Core.Path.{_≡_, refl, sym, ap, _∙_, subst}
 use mathlib.Core.Logic.{_⊎_, inl, inr}
-use Prim.Native.Nat.{ℕ, zero, suc, _+_, _-_, _*_, _/_, _%_, _^_, _≤_, _<_, zero-le}
-use native.Mathlib.Nat.{le-trans, le-of-eq, lt-of-lt-of-le, lt-of-not-le, eq-zero-or-pos, mul-assoc, mul-comm, mul-one, mul-pos, mul-le-mul-right, le-of-mul-le-mul-right, lt-of-mul-lt-mul-right, div-one, div-le-self, pow-suc}
+use Prim.Native.Nat.{ℕ, zero, suc, _+_, _-_, _*_, _/_, _^_, _≤_, _<_}
+use native.Mathlib.Nat.{le-trans, le-of-eq, mul-assoc, mul-one, mul-pos, mul-le-mul-right, le-of-mul-le-mul-right}
+use native.Mathlib.Nat.{lt-of-mul-lt-mul-right, pow-suc}
 use native.Mathlib.Omega.{arith}
 use native.Mathlib.Decide.{decLe}
-use lib.Pow.{pow-add, pow-pos, pow-mono}
+use lib.Pow.{pow-add, pow-pos}
 use lib.Ieee.{size}
-use lib.Ieee.Digits.{size-lt, size-le}
 use lib.Ieee.Order.{drop, kept}
-use Rattle.number.proofs.Rounding.{rnd, Rep, rnd-mono, rnd-same, rnd-fix, rnd-rep, rep-le, rep-grid, rnd-near, closest-near, drop-reaches, kept-le, size-mono, Near}
+use Rattle.number.proofs.Rounding.{rnd, Rep, rnd-mono, rnd-fix, rep-le, rep-grid, rnd-near, closest-near}
+use Rattle.number.proofs.Rounding.{drop-reaches, kept-le, size-mono, Near}
 
 -- the computed midpoint of u and v, by their sum
 abbrev pub mid : ℕ → ℕ

@@ -1,21 +1,20 @@
 -- The bit patterns of the finite f32 values that are not below zero: a pattern's number of units, that a larger pattern has more, and that of two neighbours the upper one has the next pattern. Assumes nothing.
-use mathlib.Core.Path.{_≡_, refl, sym, ap, _∙_, subst}
-use mathlib.Core.Logic.{_⊎_, inl, inr}
-use Prim.Native.Nat.{ℕ, zero, suc, _+_, _-_, _*_, _/_, _%_, _^_, _≤_, _<_}
-use native.Mathlib.Nat.{le-refl, le-trans, le-of-eq, le-of-lt, lt-of-lt-of-le, lt-of-le-of-lt, lt-irrefl, lt-of-not-le, not-le-of-lt, eq-of-mul-eq-mul-right, eq-or-lt-of-le, mod-eq-of-lt, mul-one, mul-assoc, mul-lt-mul-of-pos-right, mul-le-mul-right, pow-succ', add-suc}
+use mathlib.Core.Path.{_≡_, sym, ap, _∙_, subst}
+use mathlib.Core.Logic.{inl, inr}
+use Prim.Native.Nat.{ℕ, suc, _+_, _-_, _*_, _/_, _^_, _≤_, _<_}
+use native.Mathlib.Nat.{le-of-eq, le-of-lt, lt-of-lt-of-le, lt-of-le-of-lt, lt-of-not-le, not-le-of-lt}
+use native.Mathlib.Nat.{eq-of-mul-eq-mul-right, eq-or-lt-of-le}
 use native.Mathlib.Omega.{arith}
-use native.Mathlib.Decide.{decLt, decLe}
-use mathlib.Core.Bool.{Bool, true, false, not, cond}
-use lib.Dec.{T, leb, ltb, eqb, leb→le, ltb→lt, lt→ltb, eqb→eq, not-T}
-use lib.Arith.{lt-of-le-ne}
-use lib.Pow.{pow-pos}
-use lib.Ieee.{Float, nan, inf, fin, binary32, down, size, odd, ofFields, ofBits, toBits, fits, isNan, lt, le}
-use lib.Ieee.Bits.{is-false, cond-no, ofBits-toBits, ofBits-fits, toBits-lt}
+use native.Mathlib.Decide.{decLe}
+use mathlib.Core.Bool.{true, false}
+use lib.Dec.{T, ltb→lt, lt→ltb}
+use lib.Ieee.{Float, nan, inf, fin, binary32, up, down, size, ofBits, toBits, fits, lt}
+use lib.Ieee.Bits.{ofBits-toBits, ofBits-fits}
 use lib.Ieee.Digits.{size-le}
 use lib.Ieee.Fits.{down-pos, kept-lt}
-use lib.Ieee.Exact.{HasValue, odd-sign}
-use Rattle.number.proofs.Units.{L, Top, Is, Unit32, plus, lt-is, pattern, pattern-is}
-use Rattle.number.proofs.Patterns.{val, val-next, val-lt, val-back, bits-are}
+use lib.Ieee.Scale.{finite}
+use Rattle.number.proofs.Units.{Top, Is, Unit32, plus, shift, fin-false, no-size, lt-is, pattern, pattern-is}
+use Rattle.number.proofs.Patterns.{val, val-next, val-lt, bits-are}
 
 -- ---- a value's own pattern
 pattern-lt : (u : ℕ) → u < Top → pattern u < 2139095040
@@ -37,6 +36,25 @@ module _ (x : Float) (u : ℕ) (f : T (fits binary32 x)) (p : T (plus x)) (i : U
 
   pub bits-val : val (toBits binary32 x) ≡ u
   bits-val = is-unique x (val (toBits binary32 x)) u (subst (λ (y : Float). Is y (val (toBits binary32 x))) (ofBits-toBits binary32 x f) (bits-are (toBits binary32 x) bits-lt)) (i .is)
+
+-- ---- what lies above, and between
+-- what is finite and above some x that is not below zero has the sign plus
+pub after : (x w : Float) (u : ℕ) → Is x u → T (fits binary32 w) → T (finite w) → T (lt x w) → T (plus w) × ((r : ℕ) × Unit32 w r)
+unfolding lt
+after (fin false m e) (fin false n d) u p f k a = (tt, (n * 2 ^ shift d, fin-false n d f))
+after (fin false m e) (fin true n d) u p f k a = absurd a
+after (fin true m e) (fin false n d) u p f k a = (tt, (n * 2 ^ shift d, fin-false n d f))
+after (fin true m e) (fin true n d) u p f k a = absurd (none (n * up d * down e) (m * up e * down d) (no-size m (up e) (down d) (p .0)) (ltb→lt (n * up d * down e) (m * up e * down d) a))
+  where
+    none : (a b : ℕ) → b ≡ 0 → a < b → ⊥
+    none a b e h = omega arith
+
+pub below-finite : (x w y : Float) (u v : ℕ) → Is x u → Is y v → T (lt x w) → T (lt w y) → T (finite w)
+unfolding lt
+below-finite (fin s m e) nan y u v p q a b = a
+below-finite (fin s m e) (inf true) y u v p q a b = a
+below-finite (fin s m e) (inf false) (fin t n d) u v p q a b = b
+below-finite (fin s m e) (fin t n d) y u v p q a b = tt
 
 -- x and y with nothing between: y has the next pattern
 pub next-bits : (x y : Float) (u v : ℕ) → T (fits binary32 x) → T (fits binary32 y) → T (plus x) → T (plus y) → Unit32 x u → Unit32 y v → u < v
@@ -66,25 +84,3 @@ next-bits x y u v f g p q i j h none = go (decLe c b)
     go : Dec (c ≤ b) → c ≡ suc b
     go (yes l) = absurd (not-le-of-lt h (val-le l))
     go (no n) = elim (eq-or-lt-of-le (lt-of-not-le n)) [ inl e ↦ sym e | inr k ↦ absurd (between k) ]
-
--- ---- the next value up, by its pattern
-module _ (x : Float) (u : ℕ) (f : T (fits binary32 x)) (p : T (plus x)) (i : Unit32 x u) (h : suc (toBits binary32 x) < 2139095040) where
-  abbrev up-next : Float
-  up-next = ofBits binary32 (suc (toBits binary32 x))
-
-  pub next-above : T (lt x up-next)
-  next-above =
-      let v = val (suc (toBits binary32 x)) in
-      subst T (sym (lt-is x up-next u v (i .is) (bits-are (suc (toBits binary32 x)) h))) (lt→ltb u v (lt-of-le-of-lt (le-of-eq (sym (bits-val x u f p i))) (val-next (toBits binary32 x))))
-
-  pub next-none : (w : Float) (r : ℕ) → T (fits binary32 w) → T (plus w) → Unit32 w r → T (lt x w) → T (lt w up-next) → ⊥
-  next-none w r g q j a b =
-      let v = val (suc (toBits binary32 x)) in
-      let k : u < r = ltb→lt u r (subst T (lt-is x w u r (i .is) (j .is)) a) in
-      let l : r < v = ltb→lt r v (subst T (lt-is w up-next r v (j .is) (bits-are (suc (toBits binary32 x)) h)) b) in
-      let m : toBits binary32 x < toBits binary32 w = val-back (toBits binary32 x) (toBits binary32 w) (subst (λ (z : ℕ). z < val (toBits binary32 w)) (sym (bits-val x u f p i)) (lt-of-lt-of-le k (le-of-eq (sym (bits-val w r g q j))))) in
-      let n : toBits binary32 w < suc (toBits binary32 x) = val-back (toBits binary32 w) (suc (toBits binary32 x)) (lt-of-le-of-lt (le-of-eq (bits-val w r g q j)) l) in
-      clash (toBits binary32 x) (toBits binary32 w) m n
-    where
-      clash : (a b : ℕ) → a < b → b < suc a → ⊥
-      clash a b h k = omega arith

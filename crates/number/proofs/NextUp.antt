@@ -1,21 +1,22 @@
 -- The next f32 up (`nextUp`, specs/Number.antt) by bit patterns, for every f32. Assumes nothing.
 use mathlib.Core.Path.{_≡_, refl, sym, ap, _∙_, subst}
-use Prim.Native.Nat.{ℕ, zero, suc, _+_, _-_, _*_, _/_, _%_, _^_, _≤_, _<_}
-use native.Mathlib.Nat.{lt-irrefl, lt-of-lt-of-le, not-le-of-lt, zero-lt-suc, mul-pos}
+use Prim.Native.Nat.{ℕ, zero, suc, _+_, _-_, _*_, _%_, _^_, _≤_, _<_}
+use native.Mathlib.Nat.{le-of-eq, lt-irrefl, lt-of-lt-of-le, lt-of-le-of-lt, not-le-of-lt, zero-lt-suc, mul-pos}
 use native.Mathlib.Numerals.{add-one}
 use native.Mathlib.Omega.{arith}
-use mathlib.Core.Bool.{Bool, true, false, not, _&&_, _||_, Bool·beq, true≢false}
-use lib.Dec.{T, ltb, eqb, eqb→eq, ltb→lt, not-T, nltb→le, lit<, lit≤}
+use mathlib.Core.Bool.{Bool, true, false, not, _||_, Bool·beq, true≢false}
+use lib.Dec.{T, eqb, eqb→eq, lit<, lit≤}
 use lib.IntN.{ℤ}
-use lib.Ieee.{Float, nan, inf, fin, binary32, up, down, eq, ne, fits, isNan, nanBits, level, toBits, ofBits}
-use lib.Ieee.Bits.{ofBits-toBits, toBits-lt, nanBits-is, nanBits-above}
+use lib.Ieee.{Float, nan, inf, fin, binary32, up, down, eq, ne, fits, lt, isNan, nanBits, level, toBits, ofBits}
+use lib.Ieee.Bits.{ofBits-toBits, toBits-lt}
 use lib.Ieee.Compare.{differs-from-itself}
 use lib.Ieee.Fits.{and-i, and-l, eq→eqb, up-pos}
+use lib.Ieee.Scale.{finite}
 use Rattle.number.specs.Number.{zero32, nextUp}
-use Rattle.number.proofs.Units.{shift, fin-false}
+use Rattle.number.proofs.Units.{L, Is, Unit32, plus, shift, fin-false, pattern-is, says-lt, lt-says}
 use Rattle.number.proofs.Within.{or-r}
-use Rattle.number.proofs.Patterns.{no-nan-bits, bits-no-nan}
-use Rattle.number.proofs.Neighbours.{bits-lt}
+use Rattle.number.proofs.Patterns.{no-nan-bits, bits-no-nan, val, val-next, val-back, bits-are}
+use Rattle.number.proofs.Neighbours.{bits-lt, bits-val, after, below-finite}
 
 pub up-nan : (x : Float) → ne x x ≡ true → x ≡ nextUp x
 unfolding nextUp
@@ -106,3 +107,56 @@ up-minus (fin s zero e) f n z l = absurd (subst T z (zero-eq s e))
 up-minus (fin false (suc m) e) f n z l =
     absurd (not-le-of-lt (lt-of-lt-of-le (bits-lt (fin false (suc m) e) (suc m * 2 ^ shift e) f tt (fin-false (suc m) e f)) (lit≤ tt)) l)
 up-minus (fin true (suc m) e) f n z l = refl
+
+-- ---- from zero up the next value has the next pattern
+pub finite-is : (x : Float) (u : ℕ) → Is x u → T (finite x)
+finite-is (fin s m e) u i = tt
+
+zero-pattern : (e : ℤ) → toBits binary32 (fin false 0 e) ≡ 0
+unfolding lib.Ieee.size
+zero-pattern e = pattern-is (fin false 0 e) 0 tt (none (up e) L (down e))
+  where
+    none : (a b c : ℕ) → 0 * a * b ≡ 0 * c
+    none a b c = omega arith
+
+pub next-up-is : (x : Float) → T (finite x) → T (plus x) → nextUp x ≡ ofBits binary32 (suc (toBits binary32 x))
+unfolding nextUp
+next-up-is (fin false zero e) f p = ap (λ (b : ℕ). ofBits binary32 (suc b)) (sym (zero-pattern e))
+next-up-is (fin false (suc m) e) f p = refl
+
+pub next-of : (x y : Float) → T (finite x) → T (plus x) → T (fits binary32 y)
+    → toBits binary32 y ≡ suc (toBits binary32 x) → y ≡ nextUp x
+next-of x y f p g h = sym (ofBits-toBits binary32 y g) ∙ ap (ofBits binary32) h ∙ sym (next-up-is x f p)
+
+-- ---- it is the least above: of an x that is u units, short of the largest
+module _ (x : Float) (u : ℕ) (f : T (fits binary32 x)) (p : T (plus x)) (i : Unit32 x u)
+    (h : suc (toBits binary32 x) < 2139095040) where
+  abbrev b : ℕ
+  b = toBits binary32 x
+
+  abbrev v : ℕ
+  v = val (suc b)
+
+  next-is : Is (nextUp x) v
+  next-is = subst (λ (y : Float). Is y v) (sym (next-up-is x (finite-is x u (i .is)) p)) (bits-are (suc b) h)
+
+  below-next : u < v
+  below-next = lt-of-le-of-lt (le-of-eq (sym (bits-val x u f p i))) (val-next b)
+
+  pub next-up-above : T (lt x (nextUp x))
+  next-up-above = says-lt x (nextUp x) u v (i .is) next-is below-next
+
+  pub next-up-least : (w : Float) → T (fits binary32 w) → T (lt x w) → T (lt w (nextUp x)) → ⊥
+  next-up-least w g a c =
+      let k = after x w u (i .is) g (below-finite x w (nextUp x) u v (i .is) next-is a c) a in
+      let r = k .1 .0 in
+      let j = k .1 .1 in
+      let own = bits-val w r g (k .0) j in
+      let low = lt-says x w u r (i .is) (j .is) a in
+      let high = lt-says w (nextUp x) r v (j .is) next-is c in
+      let m = val-back b (toBits binary32 w) (rw (bits-val x u f p i, own) low) in
+      let n = val-back (toBits binary32 w) (suc b) (rw own high) in
+      clash b (toBits binary32 w) m n
+    where
+      clash : (a b : ℕ) → a < b → b < suc a → ⊥
+      clash a b h k = omega arith

@@ -4,8 +4,8 @@
 use mathlib.Core.Path.{_≡_, refl, sym, ap, _∙_, subst}
 use mathlib.Core.Logic.{_⊎_, inl, inr}
 use Prim.Native.Nat.{ℕ, zero, suc, _+_, _-_, _*_, _/_, _%_, _^_, _≤_, _<_}
-use native.Mathlib.Nat.{le-of-eq, le-of-lt, lt-irrefl, lt-of-lt-of-le, lt-of-not-le, eq-or-lt-of-le}
-use native.Mathlib.Nat.{mul-assoc, add-mul, one-mul, pow-succ'}
+use native.Mathlib.Nat.{le-of-eq, le-of-lt, lt-irrefl, lt-of-lt-of-le, lt-of-not-le, eq-or-lt-of-le, mul-assoc}
+use native.Mathlib.Nat.{add-mul, one-mul, pow-succ'}
 use native.Mathlib.Numerals.{add-one}
 use native.Mathlib.Omega.{arith}
 use native.Mathlib.Decide.{le-ind}

@@ -1,10 +1,12 @@
 -- The product in units, and that sums, halves and products grow with what they are made of. And that a value above a computed square is above the exact one. Assumes nothing.
 use mathlib.Core.Path.{_≡_, refl, sym, ap, _∙_, subst}
-use Prim.Native.Nat.{ℕ, zero, suc, _+_, _-_, _*_, _^_, _≤_, _<_, zero-le}
-use native.Mathlib.Nat.{le-refl, le-trans, le-of-eq, le-of-lt, lt-of-not-le, lt-irrefl, lt-of-lt-of-le, lt-of-mul-lt-mul-right, le-of-suc-le-suc, suc-mul, not-le-of-lt, zero-mul, mul-zero, mul-one, mul-assoc, mul-comm, mul-mul-mul-comm, mul-pos, mul-le-mul, mul-le-mul-right}
+use Prim.Native.Nat.{ℕ, suc, _+_, _*_, _^_, _≤_, _<_}
+use native.Mathlib.Nat.{le-trans, le-of-eq, le-of-lt, lt-of-not-le, lt-of-lt-of-le, lt-of-mul-lt-mul-right}
+use native.Mathlib.Nat.{le-of-suc-le-suc, suc-mul, not-le-of-lt, zero-mul, mul-zero, mul-assoc, mul-mul-mul-comm}
+use native.Mathlib.Nat.{mul-pos, mul-le-mul, mul-le-mul-right}
 use native.Mathlib.Omega.{arith}
-use mathlib.Core.Bool.{Bool, true, false, not}
-use lib.IntN.{ℤ, pos}
+use mathlib.Core.Bool.{Bool, true, false}
+use lib.IntN.{ℤ}
 use lib.Dec.{T, lit<}
 use lib.Pow.{pow-pos, pow-add}
 use lib.Ieee.{Float, fin, binary32, up, down, round, mul, lt, unlike}

@@ -1,19 +1,20 @@
 -- Which values have the sign plus, and so are not below zero: squares, and sums, products and quotients of such values. And `Within` from a program's own tests, and of a quotient. Assumes nothing.
-use mathlib.Core.Path.{_≡_, refl, sym, ap, _∙_, subst}
-use mathlib.Core.Logic.{_⊎_, inl, inr}
-use Prim.Native.Nat.{ℕ, zero, suc, _+_, _-_, _*_, _^_, _≤_, _<_, zero-le}
-use native.Mathlib.Nat.{le-refl, le-trans, le-of-eq, le-of-lt, zero-mul, mul-one, one-mul, mul-assoc, mul-comm, mul-left-comm, mul-right-comm, mul-mul-mul-comm, mul-pos, mul-le-mul, mul-le-mul-right, le-of-mul-le-mul-right, eq-zero-or-pos, lt-irrefl, lt-of-lt-of-le}
+use mathlib.Core.Path.{_≡_, sym, ap, _∙_, subst}
+use mathlib.Core.Logic.{inl, inr}
+use Prim.Native.Nat.{ℕ, suc, _+_, _*_, _^_, _≤_, _<_}
+use native.Mathlib.Nat.{le-trans, le-of-eq, le-of-lt, zero-mul, mul-one, mul-assoc, mul-comm, mul-pos, mul-le-mul}
+use native.Mathlib.Nat.{eq-zero-or-pos}
 use native.Mathlib.Omega.{arith}
-use mathlib.Core.Bool.{Bool, true, false, not, _&&_, _||_, cond}
-use lib.IntN.{ℤ, pos, negsuc}
-use lib.Dec.{T, ltb, eqb, leb, ltb→lt, le→leb, eqb→eq, lit≤}
+use mathlib.Core.Bool.{Bool, true, false, _&&_, _||_, cond}
+use lib.IntN.{pos}
+use lib.Dec.{T, ltb, eqb, ltb→lt, le→leb, eqb→eq}
 use lib.Pow.{pow-add, pow-pos}
-use lib.Ieee.{Float, nan, inf, fin, binary32, up, down, round, sum, add, sub, mul, div, neg, lt, le, eq, unlike, below, level, ofBits}
-use lib.Ieee.Fits.{up-pos, down-pos, and-l, and-r, eq→eqb}
+use lib.Ieee.{Float, nan, inf, fin, binary32, up, down, round, add, mul, div, le, unlike, ofBits}
+use lib.Ieee.Fits.{up-pos, down-pos, eq→eqb}
 use lib.Ieee.Positive.{positive}
 use lib.Ieee.Scale.{finite}
 use Rattle.number.specs.Number.{zero32}
-use Rattle.number.proofs.Units.{L, plus}
+use Rattle.number.proofs.Units.{plus}
 use Rattle.number.proofs.Halvings.{round-plus}
 use Rattle.number.proofs.Within.{Within, round-within, or-l, or-r, both}
 
@@ -61,7 +62,7 @@ power a = fin false 1 (pos a)
 abbrev pub minus-power : ℕ → Float
 minus-power a = fin true 1 (pos a)
 
-le-of-tests : (A B : ℕ) (c : Bool) → (T c → A ≡ B) → T (ltb A B || (c && true)) → A ≤ B
+pub le-of-tests : (A B : ℕ) (c : Bool) → (T c → A ≡ B) → T (ltb A B || (c && true)) → A ≤ B
 le-of-tests A B c f t = go (ltb A B) c (ltb→lt A B) f t
   where
     go : (b c : Bool) → (T b → A < B) → (T c → A ≡ B) → T (b || (c && true)) → A ≤ B

@@ -1,20 +1,20 @@
 -- The absolute value `size` (specs/Number.antt): what `0 - x` is for an x not above zero, and that a size has the sign
 -- plus, fits where its number does, and keeps its bound. Assumes nothing.
 use mathlib.Core.Path.{_≡_, refl, sym, ap, _∙_, subst}
-use Prim.Native.Nat.{ℕ, zero, suc, _+_, _-_, _*_, _^_, _≤_, _<_}
+use Prim.Native.Nat.{ℕ, zero, suc, _+_, _*_, _^_, _<_}
 use native.Mathlib.Nat.{lt-irrefl, lt-of-lt-of-le, mul-one, mul-pos, zero-add}
 use native.Mathlib.Omega.{arith}
 use mathlib.Core.Bool.{Bool, true, false, not, true≢false}
 use lib.Dec.{T}
 use lib.IntN.{ℤ}
 use lib.Pow.{pow-pos}
-use lib.Ieee.{Float, nan, inf, fin, binary32, up, down, add, sub, neg, lt, le, fits, isNan, ofBits}
+use lib.Ieee.{Float, nan, inf, fin, binary32, up, down, sub, neg, le, fits, isNan, ofBits}
 use lib.Ieee.Bits.{ofBits-fits}
 use lib.Ieee.Fits.{add-fits}
 use lib.Ieee.Scale.{finite}
 use Rattle.number.specs.Number.{_⊕_, _⊖_, zero32, size}
 use Rattle.number.proofs.Rounding.{rnd, rnd-fix}
-use Rattle.number.proofs.Units.{L, Top, Is, Unit32, plus, shift, fin-false, same-float, le-says}
+use Rattle.number.proofs.Units.{L, Top, Is, plus, shift, fin-false, same-float, le-says}
 use Rattle.number.proofs.Sums.{add-is}
 use Rattle.number.proofs.Within.{Within, not-lt-le}
 use Rattle.number.proofs.Signs.{sum-plus}

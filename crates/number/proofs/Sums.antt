@@ -1,19 +1,20 @@
 -- The sum, the difference and the half of f32 values that are not below zero, in units of 2 ^ -149: each is the exact one, rounded by `rnd`. Assumes nothing.
 use mathlib.Core.Path.{_≡_, refl, sym, ap, _∙_, subst}
-use mathlib.Core.Logic.{_⊎_, inl, inr}
-use Prim.Native.Nat.{ℕ, zero, suc, _+_, _-_, _*_, _/_, _%_, _^_, _≤_, _<_, zero-le}
-use native.Mathlib.Nat.{le-refl, le-trans, le-of-eq, le-of-lt, lt-of-lt-of-le, lt-of-le-of-lt, not-le-of-lt, lt-irrefl, eq-or-lt-of-le, zero-mul, mul-one, one-mul, add-mul, mul-assoc, mul-comm, mul-left-comm, mul-right-comm, mul-pos, mul-le-mul-right, le-of-mul-le-mul-right}
+use mathlib.Core.Logic.{inl, inr}
+use Prim.Native.Nat.{ℕ, _+_, _-_, _*_, _≤_, _<_}
+use native.Mathlib.Nat.{le-trans, le-of-eq, not-le-of-lt, eq-or-lt-of-le, zero-mul, mul-one, one-mul, add-mul}
+use native.Mathlib.Nat.{mul-assoc, mul-comm, mul-pos, mul-le-mul-right, le-of-mul-le-mul-right}
 use native.Mathlib.Omega.{arith}
-use mathlib.Core.Bool.{Bool, true, false, not, _&&_, cond, true≢false, false≢true}
-use lib.IntN.{ℤ, pos, negsuc}
-use lib.Dec.{T, ltb, ltb→lt, lt→ltb, lit<, lit≤}
+use mathlib.Core.Bool.{Bool, true, false, not, cond, true≢false, false≢true}
+use lib.IntN.{ℤ}
+use lib.Dec.{T, ltb, ltb→lt, lt→ltb, lit<}
 use lib.Pow.{pow-pos}
-use lib.Ieee.{Float, nan, inf, fin, binary32, up, down, round, sum, add, sub, mul, neg, ofBits}
+use lib.Ieee.{Float, fin, binary32, up, down, round, sum, add, sub, mul, ofBits}
 use lib.Ieee.Fits.{up-pos, down-pos, round-is}
 use lib.Ieee.Exact.{HasValue, units-val}
 use lib.Ieee.Order.{drop, kept}
 use Rattle.number.specs.Number.{half32}
-use Rattle.number.proofs.Rounding.{rnd, Rep, rnd-same, rnd-fix}
+use Rattle.number.proofs.Rounding.{rnd, rnd-same, rnd-fix}
 use Rattle.number.proofs.Units.{L, Top, Is, size-is, left, right, no-size, none-of}
 
 -- ---- `round`, of either sign

@@ -1,14 +1,17 @@
 -- A float that is not below zero as a whole number of units of 2 ^ -149: `Is x u`. Either zero is 0 units. Comparisons of such floats are those of the whole numbers. Assumes nothing.
 use mathlib.Core.Path.{_≡_, refl, sym, ap, _∙_, subst}
 use mathlib.Core.Logic.{_⊎_, inl, inr}
-use Prim.Native.Nat.{ℕ, zero, suc, _+_, _-_, _*_, _/_, _%_, _^_, _≤_, _<_, zero-le}
-use native.Mathlib.Nat.{le-refl, le-trans, le-of-eq, le-of-lt, lt-of-lt-of-le, lt-of-le-of-lt, lt-of-not-le, not-le-of-lt, lt-irrefl, le-of-suc-le-suc, eq-or-lt-of-le, eq-zero-or-pos, zero-mul, mul-one, one-mul, mul-assoc, mul-comm, mul-left-comm, mul-right-comm, mul-pos, mul-le-mul-right, mul-lt-mul-of-pos-right, le-of-mul-le-mul-right, lt-of-mul-lt-mul-right, eq-of-mul-eq-mul-right, mul-div-cancel}
+use Prim.Native.Nat.{ℕ, zero, suc, _+_, _-_, _*_, _/_, _%_, _^_, _≤_, _<_}
+use native.Mathlib.Nat.{le-trans, le-of-eq, le-of-lt, lt-of-lt-of-le, lt-of-le-of-lt, lt-of-not-le, lt-irrefl}
+use native.Mathlib.Nat.{le-of-suc-le-suc, eq-or-lt-of-le, eq-zero-or-pos, zero-mul, mul-one, mul-assoc, mul-comm}
+use native.Mathlib.Nat.{mul-right-comm, mul-pos, mul-lt-mul-of-pos-right, lt-of-mul-lt-mul-right}
+use native.Mathlib.Nat.{eq-of-mul-eq-mul-right, mul-div-cancel}
 use native.Mathlib.Omega.{arith}
-use mathlib.Core.Bool.{Bool, true, false, not, _&&_, _||_, cond}
+use mathlib.Core.Bool.{Bool, true, false, not, _&&_, _||_}
 use lib.IntN.{ℤ, pos, negsuc}
 use lib.Dec.{T, leb, ltb, eqb, leb→le, le→leb, ltb→lt, lt→ltb, eqb→eq, lit<}
-use lib.Pow.{pow-add, pow-pos, pow-mono, pow-lt}
-use lib.Ieee.{Float, nan, inf, fin, Format, binary32, up, down, lt, le, eq, fits, size, top, hid, toBits, ofBits}
+use lib.Pow.{pow-add, pow-pos, pow-lt}
+use lib.Ieee.{Float, nan, inf, fin, binary32, up, down, lt, le, eq, fits, size, hid, toBits, ofBits}
 use lib.Ieee.Digits.{back}
 use lib.Ieee.Fits.{up-pos, down-pos, and-l, and-r, eq→eqb}
 use lib.Ieee.Scale.{finite}

@@ -1,22 +1,21 @@
 -- The halving of a span of f32 times between 0 and 1, until the computed window repeats: it ends at neighbours, after at most 255 halvings. Assumes nothing.
-use mathlib.Core.Path.{_≡_, refl, sym, ap, _∙_, subst}
+use mathlib.Core.Path.{_≡_, refl, sym, subst}
 use mathlib.Core.Logic.{_⊎_, inl, inr}
-use Prim.Native.Nat.{ℕ, zero, suc, _+_, _-_, _*_, _^_, _≤_, _<_, zero-le}
-use native.Mathlib.Nat.{le-refl, le-trans, le-of-eq, le-of-lt, lt-of-lt-of-le, lt-of-le-of-lt, lt-irrefl, add-comm, mul-one, mul-pos, mul-le-mul-right, pow-suc}
+use Prim.Native.Nat.{ℕ, _+_, _-_, _*_, _^_, _≤_, _<_}
+use native.Mathlib.Nat.{le-refl, le-trans, le-of-eq, le-of-lt, lt-of-lt-of-le, lt-of-le-of-lt, lt-irrefl, add-comm}
+use native.Mathlib.Nat.{mul-le-mul-right}
 use native.Mathlib.Omega.{arith}
-use native.Mathlib.Decide.{ℕ-discrete}
-use mathlib.Core.Bool.{Bool, true, false, not, cond, true≢false, false≢true}
-use lib.IntN.{ℤ, pos, negsuc}
-use lib.Dec.{T, ltb, eqb, leb, ltb→lt, lt→ltb, leb→le, eqb→eq, eqb-refl, lit<, lit≤}
+use mathlib.Core.Bool.{Bool, true, false}
+use lib.Dec.{T, ltb→lt, leb→le, eqb→eq, lit<, lit≤}
 use lib.Pow.{pow-pos}
-use lib.Ieee.{Float, nan, inf, fin, binary32, up, down, round, add, sub, mul, lt, le, eq, fits, ofBits}
-use lib.Ieee.Fits.{add-fits, sub-fits, mul-fits}
+use lib.Ieee.{Float, nan, inf, fin, binary32, add, lt, le, eq, fits, ofBits}
 use lib.Ieee.Scale.{finite}
 use Rattle.number.specs.Number.{zero32, one32}
 use Rattle.number.specs.Halving.{midpoint, window}
 use Rattle.number.proofs.Rounding.{rnd, Rep, rnd-mono, rnd-fix, rnd-rep, rnd-less}
 use Rattle.number.proofs.Middle.{mid, mid-between, mid-third, Third}
-use Rattle.number.proofs.Units.{L, Top, Is, Unit32, plus, lt-is, le-is, eq-is, of-float, same-float, fin-false, shift, no-size}
+use Rattle.number.proofs.Units.{L, Top, Is, Unit32, lt-is, le-is, eq-is, of-float}
+use Rattle.number.proofs.Neighbours.{after, below-finite}
 use Rattle.number.proofs.Sums.{add-is, sub-is, half-is}
 
 -- ---- a span, in units
@@ -33,17 +32,6 @@ one-is : Is one32 L
 unfolding ofBits
 one-is = refl
 
--- what is finite and above some x that is not below zero has the sign plus
-pub after : (x w : Float) (u : ℕ) → Is x u → T (fits binary32 w) → T (finite w) → T (lt x w) → T (plus w) × ((r : ℕ) × Unit32 w r)
-unfolding lt
-after (fin false m e) (fin false n d) u p f k a = (tt, (n * 2 ^ shift d, fin-false n d f))
-after (fin false m e) (fin true n d) u p f k a = absurd a
-after (fin true m e) (fin false n d) u p f k a = (tt, (n * 2 ^ shift d, fin-false n d f))
-after (fin true m e) (fin true n d) u p f k a = absurd (none (n * up d * down e) (m * up e * down d) (no-size m (up e) (down d) (p .0)) (ltb→lt (n * up d * down e) (m * up e * down d) a))
-  where
-    none : (a b : ℕ) → b ≡ 0 → a < b → ⊥
-    none a b e h = omega arith
-
 low-finite : (lo hi : Float) → T (le zero32 lo) → T (lt lo hi) → T (finite lo)
 unfolding le ofBits
 low-finite nan hi z l = absurd z
@@ -52,13 +40,6 @@ low-finite (inf false) nan z l = absurd l
 low-finite (inf false) (inf t) z l = absurd l
 low-finite (inf false) (fin t n d) z l = absurd l
 low-finite (fin s m e) hi z l = tt
-
-below-finite : (x w y : Float) (u v : ℕ) → Is x u → Is y v → T (lt x w) → T (lt w y) → T (finite w)
-unfolding lt
-below-finite (fin s m e) nan y u v p q a b = a
-below-finite (fin s m e) (inf true) y u v p q a b = a
-below-finite (fin s m e) (inf false) (fin t n d) u v p q a b = b
-below-finite (fin s m e) (fin t n d) y u v p q a b = tt
 
 pub high-finite : (x w : Float) (u : ℕ) → Is x u → T (lt x w) → T (le w one32) → T (finite w)
 unfolding le ofBits

@@ -1,20 +1,22 @@
 -- Finite f32 values by how large they can be: `Within a x` says that x is finite and at most 2 ^ a in size. Sums, differences and products stay within the sum's and the product's bound, so no NaN and no infinity arises.
 -- A quotient by a number that is not zero is no NaN, and what is no NaN is clamped to 0..1. Assumes nothing.
-use mathlib.Core.Path.{_≡_, refl, sym, ap, _∙_, subst}
-use mathlib.Core.Logic.{_⊎_, inl, inr}
-use Prim.Native.Nat.{ℕ, zero, suc, _+_, _-_, _*_, _/_, _%_, _^_, _≤_, _<_, zero-le}
-use native.Mathlib.Nat.{le-refl, le-trans, le-of-eq, le-of-lt, lt-of-lt-of-le, lt-of-le-of-lt, lt-irrefl, eq-or-lt-of-le, eq-zero-or-pos, zero-mul, mul-one, one-mul, mul-assoc, mul-comm, mul-left-comm, mul-right-comm, mul-mul-mul-comm, mul-pos, mul-le-mul, mul-le-mul-right, mul-le-mul-left, le-of-mul-le-mul-right, pow-suc}
+use mathlib.Core.Path.{_≡_, sym, ap, _∙_, subst}
+use Prim.Native.Nat.{ℕ, zero, suc, _+_, _-_, _*_, _^_, _≤_, _<_}
+use native.Mathlib.Nat.{le-trans, le-of-eq, lt-of-le-of-lt, mul-one, one-mul, mul-assoc, mul-comm, mul-right-comm}
+use native.Mathlib.Nat.{mul-mul-mul-comm, mul-pos, mul-le-mul, mul-le-mul-right, le-of-mul-le-mul-right, pow-suc}
 use native.Mathlib.Omega.{arith}
-use mathlib.Core.Bool.{Bool, true, false, not, _&&_, _||_, cond, Bool·beq}
-use lib.IntN.{ℤ, pos, negsuc}
-use lib.Dec.{T, ltb, eqb, leb, ltb→lt, lt→ltb, nltb→le, eqb→eq, lit<, lit≤}
+use mathlib.Core.Bool.{Bool, true, false, not, _&&_, cond, Bool·beq}
+use lib.Dec.{T, ltb, eqb, ltb→lt, eqb→eq, lit<, lit≤}
 use lib.Pow.{pow-add, pow-pos, pow-mono, pow-lt}
-use lib.Ieee.{Float, nan, inf, fin, binary32, up, down, round, units, odd, sum, add, sub, mul, div, neg, lt, le, eq, isNan, unlike, below, level, ofBits}
-use lib.Ieee.Fits.{up-pos, down-pos, round-is, eq→eqb}
+use lib.Ieee.{Float, nan, inf, fin, binary32, up, down, round, units, odd, sum, add, sub, mul, div, neg, lt, isNan}
+use lib.Ieee.{unlike, ofBits}
+use lib.Ieee.Fits.{down-pos, round-is}
 use lib.Ieee.Exact.{HasValue}
 use lib.Ieee.Scale.{finite}
 use lib.Ieee.Order.{drop, kept}
-use Rattle.number.specs.Number.{zero32, one32, clamp}
+use Rattle.number.specs.Number.{zero32}
+pub use Rattle.number.proofs.Comparing.{or-l, or-r, both, not-lt-le}
+pub use Rattle.number.proofs.Choice.{clamp-in}
 use Rattle.number.proofs.Rounding.{rnd, Rep, rnd-mono, rnd-fix}
 use Rattle.number.proofs.Units.{L, Top, Is, size-is}
 use Rattle.number.proofs.Sums.{round-at}
@@ -158,74 +160,3 @@ div-no-nan (fin s m e) (fin false n d) f g h = go (eqb n 0) (eqb→eq n 0)
     go : (b : Bool) → (T b → n ≡ 0) → T (not (isNan (cond b (cond (eqb m 0) nan (inf (unlike s false))) (round binary32 (unlike s false) (m * up e * down d) (n * up d * down e)))))
     go true z = absurd (clash (0 * down d) (n * up d * 1) (ltb→lt (0 * down d) (n * up d * 1) h) (ap (λ (x : ℕ). x * up d * 1) (z tt) ∙ nil (up d)))
     go false z = round-no-nan (unlike s false) (m * up e * down d) (n * up d * down e)
-
--- ---- of two values that are no NaN, one is not above the other
-pub or-l : (a b : Bool) → T a → T (a || b)
-or-l true b t = tt
-or-l false b t = absurd t
-
-pub or-r : (a b : Bool) → T b → T (a || b)
-or-r true b t = tt
-or-r false b t = t
-
-pub both : (a b : Bool) → T a → T b → T (a && b)
-both true true p q = tt
-
-total-nat : (s t : Bool) (a b : ℕ) → T (not (below s a t b)) → T (below t b s a || level t b s a)
-total-nat false false a b h = elim (eq-or-lt-of-le (nltb→le a b h)) [
-  | inl e ↦ or-r (ltb b a) (eqb b a && true) (both (eqb b a) true (eq→eqb e) tt)
-  | inr l ↦ or-l (ltb b a) (eqb b a && true) (lt→ltb b a l)
-]
-total-nat false true a b h = elim (eq-zero-or-pos (b + a)) [
-  | inl z ↦ or-r (ltb 0 (b + a)) (eqb b a && eqb b 0) (both (eqb b a) (eqb b 0) (eq→eqb (same b a z)) (eq→eqb (first b a z)))
-  | inr l ↦ or-l (ltb 0 (b + a)) (eqb b a && eqb b 0) (lt→ltb 0 (b + a) l)
-]
-  where
-    same : (b a : ℕ) → b + a ≡ 0 → b ≡ a
-    same b a z = omega arith
-
-    first : (b a : ℕ) → b + a ≡ 0 → b ≡ 0
-    first b a z = omega arith
-total-nat true false a b h =
-    let z : a + b ≤ 0 = nltb→le 0 (a + b) h in
-    let p : b ≡ a = omega arith in
-    let q : b ≡ 0 = omega arith in
-    both (eqb b a) (eqb b 0) (eq→eqb p) (eq→eqb q)
-total-nat true true a b h = elim (eq-or-lt-of-le (nltb→le b a h)) [
-  | inl e ↦ or-r (ltb a b) (eqb b a && true) (both (eqb b a) true (eq→eqb (sym e)) tt)
-  | inr l ↦ or-l (ltb a b) (eqb b a && true) (lt→ltb a b l)
-]
-
-pub not-lt-le : (x y : Float) → T (not (isNan x)) → T (not (isNan y)) → T (not (lt x y)) → T (le y x)
-unfolding le isNan
-not-lt-le (inf true) (inf true) p q h = tt
-not-lt-le (inf true) (inf false) p q h = absurd h
-not-lt-le (inf false) (inf true) p q h = tt
-not-lt-le (inf false) (inf false) p q h = tt
-not-lt-le (inf true) (fin t n d) p q h = absurd h
-not-lt-le (inf false) (fin t n d) p q h = tt
-not-lt-le (fin s m e) (inf true) p q h = tt
-not-lt-le (fin s m e) (inf false) p q h = absurd h
-not-lt-le (fin s m e) (fin t n d) p q h = total-nat s t (m * up e * down d) (n * up d * down e) h
-
--- ---- the clamp
-zero-in : T (le zero32 zero32) × T (le zero32 one32)
-unfolding le ofBits
-zero-in = (tt, tt)
-
-one-in : T (le zero32 one32) × T (le one32 one32)
-unfolding le ofBits
-one-in = (tt, tt)
-
-closed-no-nan : T (not (isNan zero32)) × T (not (isNan one32))
-unfolding isNan ofBits
-closed-no-nan = (tt, tt)
-
-pub clamp-in : (x : Float) → T (not (isNan x)) → T (le zero32 (clamp x zero32 one32)) × T (le (clamp x zero32 one32) one32)
-unfolding clamp
-clamp-in x p = go (lt x zero32) (lt one32 x) (not-lt-le x zero32 p (closed-no-nan .0)) (not-lt-le one32 x (closed-no-nan .1) p)
-  where
-    go : (a b : Bool) → (T (not a) → T (le zero32 x)) → (T (not b) → T (le x one32)) → T (le zero32 (cond a zero32 (cond b one32 x))) × T (le (cond a zero32 (cond b one32 x)) one32)
-    go true b f g = zero-in
-    go false true f g = one-in
-    go false false f g = (f tt, g tt)

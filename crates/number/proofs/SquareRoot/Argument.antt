@@ -2,16 +2,16 @@
 -- and the number of 24 digits whose root is taken, for a normal and for a subnormal argument. Assumes nothing.
 use mathlib.Core.Path.{_≡_, refl, sym, ap, _∙_, subst}
 use mathlib.Core.Logic.{inl, inr}
-use Prim.Native.Nat.{ℕ, zero, suc, _+_, _-_, _*_, _/_, _%_, _^_, _≤_, _<_}
-use native.Mathlib.Nat.{le-trans, le-of-eq, le-of-lt, le-refl, lt-of-lt-of-le, lt-of-not-le, lt-irrefl, eq-zero-or-pos}
-use native.Mathlib.Nat.{mul-assoc, mul-one, mul-le-mul-right}
+use Prim.Native.Nat.{ℕ, suc, _+_, _-_, _*_, _/_, _%_, _^_, _≤_, _<_}
+use native.Mathlib.Nat.{le-trans, le-of-eq, le-of-lt, le-refl, lt-of-lt-of-le, lt-of-not-le, lt-irrefl}
+use native.Mathlib.Nat.{eq-zero-or-pos, mul-assoc, mul-one, mul-le-mul-right}
 use native.Mathlib.Omega.{arith}
-use mathlib.Core.Bool.{Bool, true, false, cond, _&&_, false≢true}
-use lib.Dec.{T, ltb, ltb→lt, lit≤}
+use mathlib.Core.Bool.{Bool, false, cond, _&&_}
+use lib.Dec.{T, ltb→lt}
 use lib.IntN.{ℤ}
 use lib.Pow.{pow-add, pow-mono, shl-lt, shl-exact}
 use lib.Count.{leadingZeros, leading-top}
-use lib.Ieee.{Float, nan, inf, fin, binary32, up, down, lt, fits, ofBits, toBits}
+use lib.Ieee.{Float, inf, fin, binary32, up, down, lt, fits, ofBits, toBits}
 use lib.Ieee.Bits.{ofBits-toBits}
 use Rattle.number.specs.Number.{zero32}
 use Rattle.number.specs.Range.{isFinite}

@@ -3,7 +3,8 @@ use mathlib.Core.Path.{_≡_, sym, ap, _∙_, subst}
 use mathlib.Core.Logic.{inl, inr}
 use Prim.Native.Nat.{ℕ, _+_, _-_, _*_, _/_, _%_, _^_, _≤_, _<_}
 use native.Mathlib.Nat.{le-trans, le-of-eq, lt-of-lt-of-le, lt-of-le-of-lt, lt-irrefl, eq-or-lt-of-le, add-sub-cancel}
-use native.Mathlib.Nat.{add-mul, one-mul, mul-assoc, mul-mul-mul-comm, mul-le-mul-right, mul-lt-mul-of-pos-right, mul-pos}
+use native.Mathlib.Nat.{add-mul, one-mul, mul-assoc, mul-mul-mul-comm, mul-le-mul-right, mul-lt-mul-of-pos-right}
+use native.Mathlib.Nat.{mul-pos}
 use native.Mathlib.Omega.{arith}
 use mathlib.Core.Bool.{not}
 use lib.Dec.{T, not-T}

@@ -1,32 +1,28 @@
 -- What a caller wants of the root of a positive finite x: it is an f32 of sign plus, above zero, a whole number of units
 -- nearest to the exact root (`Root` of Products), and of half the exponent's bound. Assumes nothing.
 use mathlib.Core.Path.{_≡_, refl, sym, ap, _∙_, subst}
-use Prim.Native.Nat.{ℕ, suc, _+_, _*_, _/_, _^_, _≤_, _<_, zero-le}
-use native.Mathlib.Nat.{le-trans, le-of-eq, le-of-lt, lt-of-lt-of-le, lt-of-le-of-lt, lt-irrefl, lt-of-not-le, not-le-of-lt}
-use native.Mathlib.Nat.{mul-comm, mul-one, one-mul, mul-assoc, mul-mul-mul-comm, mul-pos, mul-le-mul-right, mul-le-mul-left}
+use Prim.Native.Nat.{ℕ, _+_, _*_, _/_, _^_, _≤_, _<_, zero-le}
+use native.Mathlib.Nat.{le-trans, le-of-eq, le-of-lt, lt-of-lt-of-le, lt-of-le-of-lt, not-le-of-lt, mul-comm, mul-one}
+use native.Mathlib.Nat.{one-mul, mul-assoc, mul-mul-mul-comm, mul-pos, mul-le-mul-right, mul-le-mul-left}
 use native.Mathlib.Omega.{arith}
-use native.Mathlib.Decide.{decLe}
-use mathlib.Core.Bool.{Bool, true, false, not, _&&_, cond}
-use lib.Dec.{T, ltb, leb, eqb, lt→ltb, lit<, lit≤}
-use lib.IntN.{pos}
+use mathlib.Core.Bool.{Bool, true, false, _&&_}
+use lib.Dec.{T, lt→ltb, lit<}
 use lib.Pow.{pow-add, pow-pos, pow-mono, pow-lt, shl-lt}
-use lib.Ieee.{Float, nan, inf, fin, binary32, lt, fits, ofBits, toBits}
-use lib.Ieee.Bits.{is-true, is-false, ofBits-fits}
-use lib.Ieee.Fits.{and-i, cond-fits}
-use lib.Ieee.Scale.{finite}
+use lib.Ieee.{Float, fin, binary32, lt, fits, ofBits}
+use lib.Ieee.Bits.{ofBits-fits}
+use lib.Ieee.Fits.{cond-fits}
 use Rattle.number.specs.Number.{zero32}
 use Rattle.number.specs.Range.{isFinite}
 use Rattle.number.specs.Root.{count, twiceRootSquared, reaches, last, rootOf}
-use Rattle.number.specs.RootDigits.{RootBits, wholeOf}
-use Rattle.number.proofs.Rounding.{Rep}
+use Rattle.number.specs.RootDigits.{wholeOf}
 use Rattle.number.proofs.Units.{L, Top, Is, Unit32, plus, says-lt}
 use Rattle.number.proofs.Products.{Root}
 use Rattle.number.proofs.Within.{Within, within-finite, within-units, units-within}
 use Rattle.number.proofs.Signs.{power}
-use Rattle.number.proofs.Window.{after}
+use Rattle.number.proofs.Neighbours.{after}
 use Rattle.number.proofs.Patterns.{val, bits-are}
 use Rattle.number.proofs.SquareRoot.Nearest.{count-is}
-use Rattle.number.proofs.SquareRoot.Bits.{unit, val-is, whole-scale}
+use Rattle.number.proofs.SquareRoot.Bits.{val-is, whole-scale}
 use Rattle.number.proofs.SquareRoot.Argument.{not-above}
 use Rattle.number.proofs.SquareRoot.Found.{Found, found}
 use Rattle.number.proofs.SquareRoot.Theorem as theorem

@@ -1,14 +1,14 @@
 -- Every positive finite f32 has the digits of its root, so the definition's search ends at them: `found`.
 -- Assumes nothing.
-use mathlib.Core.Path.{_≡_, refl, _∙_}
+use mathlib.Core.Path.{_≡_, refl}
 use mathlib.Core.Logic.{inl, inr}
 use Prim.Native.Nat.{ℕ, zero, suc, _+_, _-_, _*_, _/_, _^_, _≤_, _<_, zero-le}
 use native.Mathlib.Nat.{lt-of-not-le, eq-zero-or-pos, eq-or-lt-of-le}
 use native.Mathlib.Omega.{arith}
 use native.Mathlib.Decide.{decLe}
-use mathlib.Core.Bool.{Bool, true, false}
+use mathlib.Core.Bool.{false}
 use lib.Dec.{T}
-use lib.Ieee.{Float, nan, inf, fin, binary32, lt, fits, ofBits, toBits}
+use lib.Ieee.{Float, fin, binary32, lt, fits, ofBits, toBits}
 use Rattle.number.specs.Number.{zero32}
 use Rattle.number.specs.Range.{isFinite}
 use Rattle.number.specs.Root.{count, rootOf}

@@ -9,14 +9,13 @@ use native.Mathlib.Omega.{arith}
 use native.Mathlib.Decide.{decLe}
 use mathlib.Core.Bool.{Bool, true, false, cond, not, _&&_, _||_}
 use lib.Dec.{T, ltb, eqb, ltb→lt, lt→ltb, eqb→eq, not-T, T-not}
-use lib.Ieee.{Float, nan, inf, fin, binary32, down, lt, ofBits}
+use lib.Ieee.{Float, fin, binary32, down, lt, ofBits}
 use lib.Ieee.Bits.{is-true, is-false}
-use lib.Ieee.Exact.{HasValue}
 use lib.Ieee.Fits.{and-i, and-l, and-r, eq→eqb, down-pos}
 use Rattle.number.specs.Number.{zero32}
 use Rattle.number.specs.Range.{isFinite}
 use Rattle.number.specs.Root.{count, twiceMiddle, twiceRootSquared, reaches, last, rootOf}
-use Rattle.number.proofs.Units.{L, Is, size-is}
+use Rattle.number.proofs.Units.{Is, size-is}
 use Rattle.number.proofs.Within.{or-l, or-r}
 use Rattle.number.proofs.Patterns.{val, val-lt, val-le, bits-are}
 

@@ -1,16 +1,16 @@
 -- What the definition of the square root comes to, with no word of the search or of the code: of all f32 from zero up
 -- none is nearer to the exact root than the one answered, on a tie its pattern is even, and it is the only one of which
 -- this holds. Everything is a comparison of whole-number squares. Assumes nothing.
-use mathlib.Core.Path.{_≡_, refl, sym, ap, _∙_, subst}
+use mathlib.Core.Path.{_≡_, sym, ap, _∙_, subst}
 use mathlib.Core.Logic.{_⊎_, inl, inr}
 use Prim.Native.Nat.{ℕ, _+_, _-_, _*_, _%_, _^_, _≤_, _<_}
-use native.Mathlib.Nat.{le-refl, le-trans, le-of-eq, le-of-lt, lt-of-lt-of-le, lt-of-le-of-lt, lt-irrefl, lt-of-not-le}
-use native.Mathlib.Nat.{le-antisymm, eq-or-lt-of-le, add-le-add, add-sub-cancel, mul-le-mul}
+use native.Mathlib.Nat.{le-refl, le-trans, le-of-eq, lt-of-lt-of-le, lt-irrefl, lt-of-not-le, le-antisymm}
+use native.Mathlib.Nat.{eq-or-lt-of-le, add-le-add, add-sub-cancel, mul-le-mul}
 use native.Mathlib.Omega.{arith}
 use native.Mathlib.Decide.{decLe}
-use mathlib.Core.Bool.{Bool, true, false, not, true≢false}
+use mathlib.Core.Bool.{true, false, not, true≢false}
 use lib.Dec.{T}
-use lib.Ieee.{Float, nan, inf, fin, binary32, lt, fits, ofBits, toBits}
+use lib.Ieee.{Float, fin, binary32, lt, fits, ofBits, toBits}
 use lib.Ieee.Bits.{ofBits-fits, ofBits-toBits}
 use lib.Ieee.Exact.{HasValue}
 use Rattle.number.specs.Number.{zero32}
@@ -19,8 +19,8 @@ use Rattle.number.specs.Root.{count, twiceMiddle, twiceRootSquared, reac
 use Rattle.number.proofs.Units.{L, plus, shift, fin-false}
 use Rattle.number.proofs.Patterns.{val, val-lt, val-le, val-back, bits-back, bits-plus}
 use Rattle.number.proofs.Neighbours.{bits-lt}
-use Rattle.number.proofs.SquareRoot.Nearest.{count-bits, square-mono, middle-is}
-use Rattle.number.proofs.SquareRoot.Nearest.{reached, reached-tie, missed, missed-tie}
+use Rattle.number.proofs.SquareRoot.Nearest.{count-bits, square-mono, middle-is, reached, reached-tie, missed}
+use Rattle.number.proofs.SquareRoot.Nearest.{missed-tie}
 use Rattle.number.proofs.SquareRoot.Bits as bits
 use Rattle.number.proofs.SquareRoot.Found.{Found, found, found-root}
 

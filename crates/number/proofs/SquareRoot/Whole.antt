@@ -3,7 +3,8 @@
 use mathlib.Core.Path.{_≡_, _∙_, subst}
 use mathlib.Core.Logic.{inl, inr}
 use Prim.Native.Nat.{ℕ, _+_, _-_, _*_, _%_, _^_, _≤_, _<_}
-use native.Mathlib.Nat.{lt-of-not-le, lt-irrefl, lt-of-le-of-lt, eq-zero-or-pos, mul-le-mul, mul-add, add-mul, mul-mul-mul-comm}
+use native.Mathlib.Nat.{lt-of-not-le, lt-irrefl, lt-of-le-of-lt, eq-zero-or-pos, mul-le-mul, mul-add, add-mul}
+use native.Mathlib.Nat.{mul-mul-mul-comm}
 use native.Mathlib.Omega.{arith}
 
 -- a number whose square is below 2 ^ 48 is below 2 ^ 24, and the other way round

@@ -1,12 +1,9 @@
 -- `number::order::next_up` meets its contract: NaN, plus infinity, either zero, then the next pattern by the sign.
 -- Assumes nothing.
-use mathlib.Core.Path.{_≡_, sym, ap, subst}
-use Prim.Native.Nat.{ℕ, _%_, _≤_}
-use native.Mathlib.Omega.{arith}
+use mathlib.Core.Path.{sym, subst}
 use borrow.Author.Needs.{needs}
-use mathlib.Core.Bool.{not}
 use lib.Dec.{T}
-use lib.Ieee.{binary32, fits, nanBits, toBits}
+use lib.Ieee.{binary32, fits, nanBits}
 use Rattle.number.proofs.NoNan.{no-nan-ne}
 use Rattle.number.proofs.NextUp.{next-no-nan, last-no-nan, up-nan, up-top, up-zero, up-plus, up-minus}
 use Rattle.number.proofs.order.next_up.Statement.{statement}

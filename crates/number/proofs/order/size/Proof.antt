@@ -1,7 +1,6 @@
 -- `number::order::size` meets its contract, by either way through its test. Assumes nothing.
 use mathlib.Core.Path.{sym, subst}
 use lib.Dec.{T}
-use lib.Ieee.{binary32, fits}
 use Rattle.number.proofs.Sizes.{minus-size, own-size}
 use Rattle.number.proofs.order.size.Statement.{statement}
 use Rattle.number.proofs.order.size.Tie as tie

@@ -1,17 +1,17 @@
 -- `number::root::root` meets its contract: by the exponent's field, a subnormal argument raised first. Assumes nothing.
-use mathlib.Core.Path.{_≡_, sym, ap, _∙_, subst}
+use mathlib.Core.Path.{_≡_, sym, subst}
 use Prim.Native.Nat.{ℕ, _+_, _-_, _*_, _/_, _%_, _^_, _<_}
 use native.Mathlib.Omega.{arith}
 use borrow.Author.Needs.{needs}
 use lib.Dec.{T}
-use lib.Ieee.{binary32, fits, lt, ofBits, toBits}
+use lib.Ieee.{binary32, fits, lt, toBits}
 use Rattle.number.specs.Number.{zero32}
 use Rattle.number.specs.RootDigits.{RootBits}
 use Rattle.number.proofs.Patterns.{weight, no-nan-bits}
 use Rattle.number.proofs.NoNan.{no-nan-lt}
 use Rattle.number.proofs.SquareRoot.Bits.{bits-lt, root-is}
-use Rattle.number.proofs.SquareRoot.Argument.{not-above, some-bits, at-top, finite-bits, scale-normal}
-use Rattle.number.proofs.SquareRoot.Argument.{lift, Raised, raised, scale-subnormal}
+use Rattle.number.proofs.SquareRoot.Argument.{not-above, some-bits, at-top, finite-bits, scale-normal, lift}
+use Rattle.number.proofs.SquareRoot.Argument.{Raised, raised, scale-subnormal}
 use Rattle.number.proofs.root.root.Statement.{statement}
 use Rattle.number.proofs.root.root.Tie as tie
 

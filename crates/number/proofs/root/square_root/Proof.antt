@@ -1,5 +1,5 @@
 -- `number::root::square_root` meets its contract, by each way through its tests. Assumes nothing.
-use mathlib.Core.Path.{_≡_, sym, _∙_}
+use mathlib.Core.Path.{sym, _∙_}
 use borrow.Author.Needs.{needs}
 use Rattle.number.specs.Root.{squareRoot}
 use Rattle.number.proofs.root.square_root.Statement.{statement}

@@ -1,0 +1,140 @@
+-- What the range tests of specs/Range.antt tell: finite, of what size at most, of what size at least. And the size of a
+-- constant by its bit pattern. Assumes nothing.
+use mathlib.Core.Path.{_≡_, sym, ap, _∙_, subst}
+use mathlib.Core.Logic.{inl, inr}
+use Prim.Native.Nat.{ℕ, suc, _+_, _-_, _*_, _^_, _≤_, _<_}
+use native.Mathlib.Nat.{le-trans, le-of-eq, lt-of-le-of-lt, eq-zero-or-pos}
+use native.Mathlib.Omega.{arith}
+use mathlib.Core.Bool.{true, false}
+use lib.Dec.{T, eqb, eqb→eq, lt→ltb}
+use lib.IntN.{pos, negsuc}
+use lib.Pow.{pow-add}
+use lib.Ieee.{Float, inf, fin, binary32, up, down, neg, lt, le, ofBits}
+use lib.Ieee.Fits.{and-l, and-r, down-pos}
+use lib.Ieee.Scale.{finite}
+use Rattle.number.specs.Number.{zero32, one32}
+use Rattle.number.specs.Range.{limit, minusLimit, leastSpeed, mostSpeed, inLimit, zeroToLimit, zeroToOne}
+use Rattle.number.specs.Range.{aboveZeroToOne, speedRange}
+use Rattle.number.proofs.Units.{L}
+use Rattle.number.proofs.Within.{Within, within-finite, units-within}
+use Rattle.number.proofs.Signs.{power, within-tests, le-of-tests, AtLeast}
+use Rattle.number.proofs.Comparing.{lt-le, minus-plus}
+use Rattle.number.proofs.Patterns.{val, weight, val-le, bits-are}
+
+-- ---- a constant of sign plus: its pattern is at most that of 2 ^ a
+pub bits-within : (a b : ℕ) → a ≤ 127 → b ≤ (127 + a) * 8388608 → Within a (ofBits binary32 b)
+bits-within a b l h =
+    let top = (127 + a) * 8388608 in
+    units-within a (ofBits binary32 b) (val b) (bits-are b (lt-of-le-of-lt h (room a l)))
+    (le-trans (val-le b top h) (le-of-eq (power-val a)))
+  where
+    room : (a : ℕ) → a ≤ 127 → (127 + a) * 8388608 < 2139095040
+    room a l = omega arith
+
+    field : (a : ℕ) → weight ((127 + a) * 8388608) ≡ 126 + a
+    field a = omega arith
+
+    one : (a : ℕ) → (127 + a) * 8388608 - (126 + a) * 8388608 ≡ 8388608
+    one a = omega arith
+
+    power-val : (a : ℕ) → val ((127 + a) * 8388608) ≡ 2 ^ a * L
+    power-val a =
+        ap (λ (w : ℕ). ((127 + a) * 8388608 - w * 8388608) * 2 ^ w) (field a)
+        ∙ ap (λ (n : ℕ). n * 2 ^ (126 + a)) (one a)
+        ∙ sym (pow-add 2 23 (126 + a))
+        ∙ ap (λ (n : ℕ). 2 ^ n) (sum a)
+        ∙ pow-add 2 a 149
+      where
+        sum : (a : ℕ) → 23 + (126 + a) ≡ a + 149
+        sum a = omega arith
+
+-- ---- from zero to 2 ^ a
+pub within-above : (a : ℕ) (x : Float) → T (le zero32 x) → T (le x (power a)) → Within a x
+unfolding le ofBits
+within-above a (inf false) h k = absurd k
+within-above a (fin false m e) h k = within-tests a (fin false m e) (minus-plus 1 (pos a) m e) k
+within-above a (fin true m e) h k =
+    let z = eqb→eq (0 * down e) (m * up e * 1) (and-l (eqb (0 * down e) (m * up e * 1)) (eqb (0 * down e) 0) h) in
+    none (m * up e) (down e) (2 ^ a * down e) z
+  where
+    none : (k d p : ℕ) → 0 * d ≡ k * 1 → k ≤ p
+    none k d p e = omega arith
+
+-- ---- at least 2 ^ -b
+pub at-least-tests : (b : ℕ) (x : Float) → T (finite x) → T (le (fin false 1 (negsuc b)) x) → AtLeast (suc b) x
+unfolding le
+at-least-tests b (fin false m e) f h =
+    let k = 1 * 1 * down e in
+    let n = m * up e * 2 ^ suc b in
+    le-trans (le-of-eq (sym (plain (down e)))) (le-of-tests k n (eqb k n) (eqb→eq k n) h)
+  where
+    plain : (d : ℕ) → 1 * 1 * d ≡ d
+    plain d = omega arith
+at-least-tests b (fin true m e) f h =
+    let k = 1 * 1 * down e in
+    let n = m * up e * 2 ^ suc b in
+    absurd (some (down e) (down-pos e) (eqb→eq k 0 (and-r (eqb k n) (eqb k 0) h)))
+  where
+    some : (d : ℕ) → 0 < d → 1 * 1 * d ≡ 0 → ⊥
+    some d h e = omega arith
+
+-- what is not below a number above zero is above zero
+above-least : (x : Float) → T (le leastSpeed x) → T (lt zero32 x)
+unfolding le ofBits
+above-least (inf false) h = tt
+above-least (fin false m e) h =
+    let k = 1 * 1 * down e in
+    let n = m * up e * 2 ^ 60 in
+    lt→ltb (0 * down e) (m * up e * 1)
+    (some (m * up e) (down e) (2 ^ 60) (down-pos e) (le-of-tests k n (eqb k n) (eqb→eq k n) h))
+  where
+    some : (k d p : ℕ) → 0 < d → 1 * 1 * d ≤ k * p → 0 * d < k * 1
+    some k d p D h = elim (eq-zero-or-pos k) [
+      | inl z ↦ absurd (no d p D (subst (λ (n : ℕ). 1 * 1 * d ≤ n * p) z h))
+      | inr l ↦ (omega arith)
+    ]
+      where
+        no : (d p : ℕ) → 0 < d → 1 * 1 * d ≤ 0 * p → ⊥
+        no d p D h = omega arith
+above-least (fin true m e) h =
+    let k = 1 * 1 * down e in
+    let n = m * up e * 2 ^ 60 in
+    absurd (some (down e) (down-pos e) (eqb→eq k 0 (and-r (eqb k n) (eqb k 0) h)))
+  where
+    some : (d : ℕ) → 0 < d → 1 * 1 * d ≡ 0 → ⊥
+    some d h e = omega arith
+
+-- ---- the tests
+pub in-limit : (x : Float) → T (inLimit x) → Within 20 x
+unfolding ofBits neg
+in-limit x h =
+    within-tests 20 x (and-l (le minusLimit x) (le x limit) h) (and-r (le minusLimit x) (le x limit) h)
+
+pub zero-to-limit : (x : Float) → T (zeroToLimit x) → T (le zero32 x) × Within 20 x
+unfolding ofBits
+zero-to-limit x h =
+    let low = and-l (le zero32 x) (le x limit) h in
+    (low, within-above 20 x low (and-r (le zero32 x) (le x limit) h))
+
+pub zero-to-one : (x : Float) → T (zeroToOne x) → T (le zero32 x) × T (le x one32) × Within 0 x
+unfolding ofBits
+zero-to-one x h =
+    let low = and-l (le zero32 x) (le x one32) h in
+    let high = and-r (le zero32 x) (le x one32) h in
+    (low, high, within-above 0 x low high)
+
+pub above-zero-to-one : (x : Float) → T (aboveZeroToOne x) → T (lt zero32 x) × T (le x one32) × Within 0 x
+unfolding ofBits
+above-zero-to-one x h =
+    let low = and-l (lt zero32 x) (le x one32) h in
+    let high = and-r (lt zero32 x) (le x one32) h in
+    (low, high, within-above 0 x (lt-le zero32 x low) high)
+
+pub speed-range : (x : Float) → T (speedRange x) → T (lt zero32 x) × AtLeast 60 x × Within 60 x
+unfolding ofBits
+speed-range x h =
+    let low = and-l (le leastSpeed x) (le x mostSpeed) h in
+    let high = and-r (le leastSpeed x) (le x mostSpeed) h in
+    let a = above-least x low in
+    let w = within-above 60 x (lt-le zero32 x a) high in
+    (a, at-least-tests 59 x (within-finite 60 x w) low, w)
