@@ -1,0 +1,124 @@
+-- What a verdict says: 0 puts every number in its range and the split at 2 or 3; 1 is met exactly where some number is
+-- not finite; 2 exactly where all are and something lies beyond its range. Assumes nothing.
+use Prim.Native.Nat.{ℕ, zero, suc, _<_}
+use native.Mathlib.Omega.{arith}
+use mathlib.Core.Path.{_≡_, refl}
+use mathlib.Core.Logic.{_⊎_, inl, inr, _↔_}
+use mathlib.Core.Bool.{Bool, true, false, not, _&&_, _||_}
+use mathlib.Core.List.{List}
+use lib.Dec.{T, eqb, eqb→eq}
+use lib.Ieee.{Float}
+use lib.Ieee.Fits.{and-i, and-l, and-r}
+use Rattle.number.specs.Range.{isFinite, inLimit, zeroToLimit, zeroToOne, speedRange}
+use Rattle.number.proofs.Within.{Within}
+use Rattle.geometry.specs.Vec3.{at, col}
+use Rattle.pair.specs.declared.record.Limits.{Limits}
+use Rattle.pair.specs.Admission.{refusal, ofThree, ofTwelve, finitePoints, limitPoints, isSplit, rangedLimits}
+use Rattle.pair.specs.Admission.{finiteWalk, rangedWalk, walkRefusal}
+use Rattle.pair.proofs.Ranges.{limit-within}
+
+-- ---- the three numbers of a verdict
+pub refusal-none : (finite ranged : Bool) → refusal finite ranged ≡ 0 → T finite × T ranged
+refusal-none true true e = (tt, tt)
+refusal-none true false e = omega arith
+refusal-none false true e = omega arith
+refusal-none false false e = omega arith
+
+pub refusal-first : (finite ranged : Bool) → (refusal finite ranged ≡ 1) ↔ T (not finite)
+refusal-first true true = (λ e. omega arith, λ n. absurd n)
+refusal-first true false = (λ e. omega arith, λ n. absurd n)
+refusal-first false ranged = (λ e. tt, λ n. refl)
+
+pub refusal-second : (finite ranged : Bool) → (refusal finite ranged ≡ 2) ↔ (T finite × T (not ranged))
+refusal-second true true = (λ e. omega arith, λ n. absurd (n .1))
+refusal-second true false = (λ e. (tt, tt), λ n. refl)
+refusal-second false ranged = (λ e. absurd (omega arith), λ n. absurd (n .0))
+
+-- ---- the numbers of four points, by column and place
+abbrev pub Each : (Float → Bool) → List (List Float) → Type 0
+Each test x = (i j : ℕ) → i < 4 → j < 3 → T (test (at (col x i) j))
+
+-- the parts of a conjunction
+triple : (a b c : Bool) → T (a && b && c) → T a × T b × T c
+triple a b c h = let ab = and-l (a && b) c h in (and-l a b ab, and-r a b ab, and-r (a && b) c h)
+
+quadruple : (a b c d : Bool) → T (a && b && c && d) → T a × T b × T c × T d
+quadruple a b c d h =
+    let abc = triple a b c (and-l (a && b && c) d h) in
+    (abc .0, abc .1, abc .2, and-r (a && b && c) d h)
+
+module _ (test : Float → Bool) where
+  three-each : (v : List Float) → T (ofThree test v) → (j : ℕ) → j < 3 → T (test (at v j))
+  three-each v h zero l = triple (test (at v 0)) (test (at v 1)) (test (at v 2)) h .0
+  three-each v h (suc zero) l = triple (test (at v 0)) (test (at v 1)) (test (at v 2)) h .1
+  three-each v h (suc (suc zero)) l = triple (test (at v 0)) (test (at v 1)) (test (at v 2)) h .2
+  three-each v h (suc (suc (suc j))) l = absurd (omega arith)
+
+  pub twelve-each : (x : List (List Float)) → T (ofTwelve test x) → Each test x
+  twelve-each x h = go
+    where
+      row : ℕ → Bool
+      row i = ofThree test (col x i)
+
+      all : T (row 0) × T (row 1) × T (row 2) × T (row 3)
+      all = quadruple (row 0) (row 1) (row 2) (row 3) h
+
+      go : Each test x
+      go zero j k l = three-each (col x 0) (all .0) j l
+      go (suc zero) j k l = three-each (col x 1) (all .1) j l
+      go (suc (suc zero)) j k l = three-each (col x 2) (all .2) j l
+      go (suc (suc (suc zero))) j k l = three-each (col x 3) (all .3) j l
+      go (suc (suc (suc (suc i)))) j k l = absurd (omega arith)
+
+-- each number of points within the limit is at most 2 ^ 20 in size
+pub points-within : (x : List (List Float)) → T (limitPoints x)
+    → (i j : ℕ) → i < 4 → j < 3 → Within 20 (at (col x i) j)
+unfolding limitPoints
+points-within x h i j k l = limit-within (at (col x i) j) (twelve-each inLimit x h i j k l)
+
+-- ---- the split
+pub split-parts : (split : ℕ) → T (isSplit split) → (split ≡ 2) ⊎ (split ≡ 3)
+split-parts split h = go (eqb split 2) (eqb split 3) (eqb→eq split 2) (eqb→eq split 3) h
+  where
+    go : (a b : Bool) → (T a → split ≡ 2) → (T b → split ≡ 3) → T (a || b) → (split ≡ 2) ⊎ (split ≡ 3)
+    go true b f g h = inl (f tt)
+    go false true f g h = inr (g tt)
+    go false false f g h = absurd h
+
+-- ---- the safe time
+pub record Walkable (x dx : List (List Float)) (split : ℕ) (l : Limits) : Type 0 where
+  pub points : T (limitPoints x)
+  pub displacements : T (limitPoints dx)
+  pub offset : T (zeroToLimit (l .offset))
+  pub clearance : T (zeroToLimit (l .clearance))
+  pub max-t : T (zeroToOne (l .«max_t»))
+  pub u-max : T (speedRange (l .«u_max»))
+  pub parts : (split ≡ 2) ⊎ (split ≡ 3)
+
+module _ (x dx : List (List Float)) (split : ℕ) (l : Limits) where
+  pub walk-admits : walkRefusal x dx split l ≡ 0 → Walkable x dx split l
+  unfolding walkRefusal rangedLimits
+  walk-admits e =
+      let r = refusal-none (finiteWalk x dx l) (rangedWalk x dx split l) e .1 in
+      let q = quadruple (limitPoints x) (limitPoints dx) (rangedLimits l) (isSplit split) r in
+      let p =
+      quadruple (zeroToLimit (l .offset)) (zeroToLimit (l .clearance)) (zeroToOne (l .«max_t»))
+      (speedRange (l .«u_max»)) (q .2)
+      in
+      record {
+        points = q .0;
+        displacements = q .1;
+        offset = p .0;
+        clearance = p .1;
+        max-t = p .2;
+        u-max = p .3;
+        parts = split-parts split (q .3);
+      }
+
+  pub walk-first : (walkRefusal x dx split l ≡ 1) ↔ T (not (finiteWalk x dx l))
+  unfolding walkRefusal
+  walk-first = refusal-first (finiteWalk x dx l) (rangedWalk x dx split l)
+
+  pub walk-second : (walkRefusal x dx split l ≡ 2) ↔ (T (finiteWalk x dx l) × T (not (rangedWalk x dx split l)))
+  unfolding walkRefusal
+  walk-second = refusal-second (finiteWalk x dx l) (rangedWalk x dx split l)

@@ -1,0 +1,26 @@
+-- `pair::points::add_scaled` meets its contract, by either way through its test. Assumes nothing.
+use mathlib.Core.Path.{_∙_}
+use borrow.Author.Needs.{needs}
+use Rattle.pair.specs.Points.{movedInto}
+use Rattle.pair.proofs.Taken.{taken, refused}
+use Rattle.pair.proofs.points.add_scaled.Statement.{statement}
+use Rattle.pair.proofs.points.add_scaled.Tie as tie
+
+admit-time-requires : tie.Need-admit-time-requires
+admit-time-requires c κs = search needs
+
+add-scaled-requires : tie.Need-add-scaled-requires
+add-scaled-requires c κs = search needs
+
+returns : tie.Need-returns
+unfolding movedInto
+returns c =
+    let e = c .before .before .admit-time .ensures in
+    (e, c .add-scaled .ensures ∙ taken _ _ _ _ e (c .before .if1 .taken))
+
+returns-2 : tie.Need-returns-2
+unfolding movedInto
+returns-2 c = let e = c .before .admit-time .ensures in (e, refused _ _ _ _ e (c .if1 .left))
+
+pub add-scaled-spec : {M : Type 1} → statement M
+add-scaled-spec = tie.close (tie.spec admit-time-requires add-scaled-requires returns returns-2)

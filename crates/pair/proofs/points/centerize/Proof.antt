@@ -1,0 +1,26 @@
+-- `pair::points::centerize` meets its contract, by either way through its test. Assumes nothing.
+use mathlib.Core.Path.{_∙_}
+use borrow.Author.Needs.{needs}
+use Rattle.pair.specs.Points.{centredIn}
+use Rattle.pair.proofs.Taken.{taken, refused}
+use Rattle.pair.proofs.points.centerize.Statement.{statement}
+use Rattle.pair.proofs.points.centerize.Tie as tie
+
+admit-points-requires : tie.Need-admit-points-requires
+admit-points-requires c κs = search needs
+
+centerized-requires : tie.Need-centerized-requires
+centerized-requires c κs = search needs
+
+returns : tie.Need-returns
+unfolding centredIn
+returns c =
+    let e = c .before .before .admit-points .ensures in
+    (e, c .centerized .ensures ∙ taken _ _ _ _ e (c .before .if1 .taken))
+
+returns-2 : tie.Need-returns-2
+unfolding centredIn
+returns-2 c = let e = c .before .admit-points .ensures in (e, refused _ _ _ _ e (c .if1 .left))
+
+pub centerize-spec : {M : Type 1} → statement M
+centerize-spec = tie.close (tie.spec admit-points-requires centerized-requires returns returns-2)

@@ -1,0 +1,41 @@
+-- `pair::points::lerp` meets its contract, by either way through its test. Assumes nothing.
+use Prim.Native.Nat.{ℕ}
+use mathlib.Core.Path.{_≡_, _∙_}
+use mathlib.Core.List.{List}
+use lib.Ieee.{Float}
+use borrow.Author.Needs.{needs}
+use Rattle.number.specs.Number.{zero32}
+use Rattle.geometry.specs.Vec3.{vec}
+use Rattle.geometry.specs.Edge3.{lerpOf}
+use Rattle.pair.specs.declared.points.Placed.{Placed}
+use Rattle.pair.specs.Admission.{ratioRefusal}
+use Rattle.pair.specs.Points.{admitted, placed}
+use Rattle.pair.proofs.Taken.{taken, refused}
+use Rattle.pair.proofs.points.lerp.Statement.{statement}
+use Rattle.pair.proofs.points.lerp.Tie as tie
+
+module _ (p q : List Float) (s : Float) (n : ℕ) (e : n ≡ ratioRefusal p q s) where
+  abbrev Zeros : List Float
+  Zeros = vec zero32 zero32 zero32
+
+  made : (v : List Float) → v ≡ admitted (ratioRefusal p q s) (lerpOf p q s) Zeros
+      → _≡_ {A = Placed} (record { refusal = n; point = v }) (placed p q s)
+  unfolding placed
+  made v h = λ i. record { refusal = e i; point = h i }
+
+admit-ratio-requires : tie.Need-admit-ratio-requires
+admit-ratio-requires c κs = search needs
+
+lerp-requires : tie.Need-lerp-requires
+lerp-requires c κs = search needs
+
+returns : tie.Need-returns
+returns c =
+    let e = c .before .before .admit-ratio .ensures in
+    made _ _ _ _ e _ (c .lerp .ensures ∙ taken _ _ _ _ e (c .before .if1 .taken))
+
+returns-2 : tie.Need-returns-2
+returns-2 c = let e = c .before .admit-ratio .ensures in made _ _ _ _ e _ (refused _ _ _ _ e (c .if1 .left))
+
+pub lerp-spec : {M : Type 1} → statement M
+lerp-spec = tie.close (tie.spec admit-ratio-requires lerp-requires returns returns-2)

@@ -1,0 +1,26 @@
+-- `pair::points::scale_in_place` meets its contract, by either way through its test. Assumes nothing.
+use mathlib.Core.Path.{_∙_}
+use borrow.Author.Needs.{needs}
+use Rattle.pair.specs.Points.{scaledIn}
+use Rattle.pair.proofs.Taken.{taken, refused}
+use Rattle.pair.proofs.points.scale_in_place.Statement.{statement}
+use Rattle.pair.proofs.points.scale_in_place.Tie as tie
+
+admit-factor-requires : tie.Need-admit-factor-requires
+admit-factor-requires c κs = search needs
+
+scaled-requires : tie.Need-scaled-requires
+scaled-requires c κs = search needs
+
+returns : tie.Need-returns
+unfolding scaledIn
+returns c =
+    let e = c .before .before .admit-factor .ensures in
+    (e, c .scaled .ensures ∙ taken _ _ _ _ e (c .before .if1 .taken))
+
+returns-2 : tie.Need-returns-2
+unfolding scaledIn
+returns-2 c = let e = c .before .admit-factor .ensures in (e, refused _ _ _ _ e (c .if1 .left))
+
+pub scale-in-place-spec : {M : Type 1} → statement M
+scale-in-place-spec = tie.close (tie.spec admit-factor-requires scaled-requires returns returns-2)

@@ -1,0 +1,25 @@
+-- `pair::scaling::reach` meets its contract. Assumes nothing.
+use borrow.Author.Needs.{needs}
+use Rattle.pair.specs.Scaling.{reach}
+use Rattle.pair.proofs.scaling.reach.Statement.{statement}
+use Rattle.pair.proofs.scaling.reach.Tie as tie
+
+size-requires : tie.Need-size-requires
+size-requires c κs = search needs
+
+larger-requires : tie.Need-larger-requires
+larger-requires c κs = search needs
+
+size-requires-2 : tie.Need-size-requires-2
+size-requires-2 c κs = search needs
+
+larger-requires-2 : tie.Need-larger-requires-2
+larger-requires-2 c κs = search needs
+
+returns : tie.Need-returns
+unfolding reach
+returns c = cc
+
+pub reach-spec : {M : Type 1} → statement M
+reach-spec =
+    tie.close (tie.spec size-requires larger-requires size-requires-2 larger-requires-2 returns)

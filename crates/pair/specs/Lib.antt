@@ -1,0 +1,6 @@
+-- What the contracts of `pair` cite. Definitions only.
+pub mod Count
+pub mod Admission
+pub mod Points
+pub mod Norm
+pub mod Scaling

@@ -1,0 +1,50 @@
+// The largest distance between the two sides of a split (docs/01-scope.md, "Square root and norm"; ccd3.rs:
+// `max_relative_norm`).
+ghost use mathlib.Core.Path.{_≡_};
+ghost use Rattle.pair.specs.Norm as Def;
+use crate::admission;
+use geometry::vec3;
+use number::order;
+use number::root;
+
+// What the norm's public call answers: the norm, or a refusal by 1 or 2.
+pub enum Normed {
+    Norm(f32),
+    Refused(u32),
+}
+
+// The largest squared difference of a column before the split and a column from it.
+fn largest_square(x: [[f32; 3]; 4], split: usize) -> f32
+    ensures { λ r. ⌜ r ≡ Def.largestSquare x split ⌝ }
+{
+    let mut largest = 0.0;
+    for i in 0..split {
+        for j in split..4 {
+            let xi = x[i];
+            let xj = x[j];
+            let gap = vec3::sub(xi, xj);
+            largest = order::larger(largest, vec3::dot(gap, gap));
+        }
+    }
+    largest
+}
+
+// Its root. Any points and any split are taken: the largest over no column at all is zero.
+pub fn norm(x: [[f32; 3]; 4], split: usize) -> f32
+    ensures { λ r. ⌜ r ≡ Def.normOf x split ⌝ }
+{
+    root::root(largest_square(x, split))
+}
+
+// The public call.
+pub fn max_relative_norm(x: [[f32; 3]; 4], split: usize) -> Normed
+    ensures { λ r. ⌜ r ≡ Def.normed x split ⌝ }
+{
+    let refusal = admission::admit_split(x, split);
+    if refusal == 0 {
+        let r = norm(x, split);
+        Normed::Norm(r)
+    } else {
+        Normed::Refused(refusal)
+    }
+}
