@@ -1,45 +1,20 @@
-// One call of each public function: its arguments are taken out of the bytes of the call, and the answer is put into the
-// bytes of the answer.
-use crate::words;
-use number::root;
-use number::root::Rooted;
-use polynomial_root::answer::Roots;
-
-fn square_root(call: &[u8], out: &mut [u8]) {
-    match root::square_root(words::number(call, 4)) {
-        Rooted::Root(x) => words::put_number(out, 4, x),
-        Rooted::Refused(refusal) => words::put(out, 0, refusal),
-    }
-}
-
-fn put_roots(out: &mut [u8], answer: Roots) {
-    let roots = answer.roots;
-    words::put(out, 0, answer.refusal);
-    words::put(out, 4, answer.count);
-    words::put_point(out, 8, roots);
-}
-
-fn quadratic_root(call: &[u8], out: &mut [u8]) {
-    let c = words::point(call, 4);
-    put_roots(out, polynomial_root::quadratic_root(c[0], c[1], c[2]));
-}
-
-fn cubic_roots(call: &[u8], out: &mut [u8]) {
-    let c = words::point(call, 4);
-    let c3 = words::number(call, 16);
-    let t = words::number(call, 20);
-    let epsilon = words::number(call, 24);
-    put_roots(
-        out,
-        polynomial_root::cubic_roots_in_range_zero_to_t(c[0], c[1], c[2], c3, t, epsilon),
-    );
-}
+// One call of each public function, by its number: the arguments are taken out of the bytes of the call, and the answer
+// is put into the bytes of the answer, which are zeros until then.
+use crate::points;
+use crate::roots;
+use crate::scaling;
 
 pub fn answer(function: u32, call: &[u8], out: &mut [u8]) {
     match function {
-        1 => square_root(call, out),
-        9 => quadratic_root(call, out),
-        10 => cubic_roots(call, out),
+        1 => roots::square_root(call, out),
+        2 => points::lerp(call, out),
+        3 => points::add_scaled(call, out),
+        4 => points::centerize(call, out),
+        5 => points::scale_in_place(call, out),
+        7 => points::max_relative_norm(call, out),
+        8 => scaling::normalize(call, out),
+        9 => roots::quadratic_root(call, out),
+        10 => roots::cubic_roots(call, out),
         _ => {}
     }
 }

@@ -1,7 +1,11 @@
 // Answers a stream of calls of the library's public functions (docs/TESTING.md, "The stream"): reads the calls from
 // standard input, block by block, and writes the answers of each block to standard output.
 ghost use Rattle.io.specs.Counts.{Counts};
+
 mod calls;
+mod points;
+mod roots;
+mod scaling;
 mod sizes;
 mod words;
 

@@ -57,6 +57,11 @@ pub fn put_number(s: &mut [u8], at: usize, x: f32) {
     put(s, at, bits_of(x));
 }
 
+// The split at byte `at`.
+pub fn split(s: &[u8], at: usize) -> usize {
+    word(s, at) as usize
+}
+
 // Three numbers from byte `at` on.
 pub fn point(s: &[u8], at: usize) -> [f32; 3] {
     if at < 65536 {
@@ -77,9 +82,19 @@ pub fn put_point(s: &mut [u8], at: usize, p: [f32; 3]) {
 // Four points from byte `at` on.
 pub fn points(s: &[u8], at: usize) -> [[f32; 3]; 4] {
     if at < 65536 {
-        [point(s, at), point(s, at + 12), point(s, at + 24), point(s, at + 36)]
+        [
+            point(s, at),
+            point(s, at + 12),
+            point(s, at + 24),
+            point(s, at + 36),
+        ]
     } else {
-        [[0.0, 0.0, 0.0], [0.0, 0.0, 0.0], [0.0, 0.0, 0.0], [0.0, 0.0, 0.0]]
+        [
+            [0.0, 0.0, 0.0],
+            [0.0, 0.0, 0.0],
+            [0.0, 0.0, 0.0],
+            [0.0, 0.0, 0.0],
+        ]
     }
 }
 
