@@ -1,14 +1,14 @@
 -- The order of f32 values: comparisons as tests and as facts, infinities and either zero included. Assumes nothing.
 use mathlib.Core.Path.{_≡_, sym}
 use mathlib.Core.Logic.{inl, inr}
+use mathlib.Core.Bool.{Bool, true, false, not, _&&_, _||_}
 use Prim.Native.Nat.{ℕ, _+_, _*_, _≤_}
 use native.Mathlib.Nat.{eq-or-lt-of-le, eq-zero-or-pos}
 use native.Mathlib.Omega.{arith}
-use mathlib.Core.Bool.{Bool, true, false, not, _&&_, _||_}
 use lib.Dec.{T, ltb, eqb, lt→ltb, nltb→le, eqb→eq, eqb-refl}
 use lib.IntN.{ℤ}
 use lib.Ieee.{Float, inf, fin, up, down, lt, le, eq, isNan, below, level}
-use lib.Ieee.Fits.{eq→eqb}
+use lib.Ieee.Fits.{and-i, eq→eqb}
 
 -- ---- tests joined
 pub or-l : (a b : Bool) → T a → T (a || b)
@@ -19,17 +19,15 @@ pub or-r : (a b : Bool) → T b → T (a || b)
 or-r true b t = tt
 or-r false b t = t
 
-pub both : (a b : Bool) → T a → T b → T (a && b)
-both true true p q = tt
-
 -- ---- of two values that are no NaN, one is not above the other
 total-nat : (s t : Bool) (a b : ℕ) → T (not (below s a t b)) → T (below t b s a || level t b s a)
 total-nat false false a b h = elim (eq-or-lt-of-le (nltb→le a b h)) [
-  | inl e ↦ or-r (ltb b a) (eqb b a && true) (both (eqb b a) true (eq→eqb e) tt)
+  | inl e ↦ or-r (ltb b a) (eqb b a && true) (and-i (eqb b a) true (eq→eqb e) tt)
   | inr l ↦ or-l (ltb b a) (eqb b a && true) (lt→ltb b a l)
 ]
 total-nat false true a b h = elim (eq-zero-or-pos (b + a)) [
-  | inl z ↦ or-r (ltb 0 (b + a)) (eqb b a && eqb b 0) (both (eqb b a) (eqb b 0) (eq→eqb (same b a z)) (eq→eqb (first b a z)))
+  | inl z ↦ or-r (ltb 0 (b + a)) (eqb b a && eqb b 0)
+      (and-i (eqb b a) (eqb b 0) (eq→eqb (same b a z)) (eq→eqb (first b a z)))
   | inr l ↦ or-l (ltb 0 (b + a)) (eqb b a && eqb b 0) (lt→ltb 0 (b + a) l)
 ]
   where
@@ -42,9 +40,9 @@ total-nat true false a b h =
     let z : a + b ≤ 0 = nltb→le 0 (a + b) h in
     let p : b ≡ a = omega arith in
     let q : b ≡ 0 = omega arith in
-    both (eqb b a) (eqb b 0) (eq→eqb p) (eq→eqb q)
+    and-i (eqb b a) (eqb b 0) (eq→eqb p) (eq→eqb q)
 total-nat true true a b h = elim (eq-or-lt-of-le (nltb→le b a h)) [
-  | inl e ↦ or-r (ltb a b) (eqb b a && true) (both (eqb b a) true (eq→eqb (sym e)) tt)
+  | inl e ↦ or-r (ltb a b) (eqb b a && true) (and-i (eqb b a) true (eq→eqb (sym e)) tt)
   | inr l ↦ or-l (ltb a b) (eqb b a && true) (lt→ltb a b l)
 ]
 
@@ -62,8 +60,8 @@ not-lt-le (fin s m e) (fin t n d) p q h = total-nat s t (m * up e * down d) (n *
 
 -- ---- each is not above itself; below is not above
 level-self : (s : Bool) (a : ℕ) → T (level s a s a)
-level-self true a = both (eqb a a) true (eqb-refl a) tt
-level-self false a = both (eqb a a) true (eqb-refl a) tt
+level-self true a = and-i (eqb a a) true (eqb-refl a) tt
+level-self false a = and-i (eqb a a) true (eqb-refl a) tt
 
 pub le-self : (x : Float) → T (not (isNan x)) → T (le x x)
 unfolding le isNan
@@ -83,7 +81,8 @@ unfolding lt isNan
 minus-plus m e n d = not-lt-le (fin false n d) (fin true m e) tt tt tt
 
 -- with either sign changed the order is turned round
-pub turned : (m : ℕ) (e : ℤ) (n : ℕ) (d : ℤ) → T (le (fin false m e) (fin false n d)) → T (le (fin true n d) (fin true m e))
+pub turned : (m : ℕ) (e : ℤ) (n : ℕ) (d : ℤ) → T (le (fin false m e) (fin false n d))
+    → T (le (fin true n d) (fin true m e))
 unfolding le
 turned m e n d h = go (ltb a b) (eqb a b) (λ t. eq→eqb (sym (eqb→eq a b t))) h
   where
@@ -95,5 +94,5 @@ turned m e n d h = go (ltb a b) (eqb a b) (λ t. eq→eqb (sym (eqb→eq a b t))
 
     go : (p q : Bool) → (T q → T (eqb b a)) → T (p || (q && true)) → T (p || (eqb b a && true))
     go true q f h = tt
-    go false true f h = both (eqb b a) true (f tt) tt
+    go false true f h = and-i (eqb b a) true (f tt) tt
     go false false f h = absurd h

@@ -1,18 +1,19 @@
 -- The finite f32 values: `isFinite` (specs/Range.antt) is a comparison with the largest of them, either way.
 -- Assumes nothing.
 use mathlib.Core.Path.{_≡_, refl, sym}
+use mathlib.Core.Bool.{true, false}
 use Prim.Native.Nat.{ℕ, _*_, _^_}
 use native.Mathlib.Nat.{le-trans, le-of-eq, le-of-suc-le-suc}
-use mathlib.Core.Bool.{true, false}
 use lib.Dec.{T, lit<}
 use lib.IntN.{ℤ, pos}
 use lib.Ieee.{Float, nan, inf, fin, binary32, neg, le, fits, toBits, ofBits}
 use lib.Ieee.Bits.{is-true}
+use lib.Ieee.Fits.{and-i}
 use lib.Ieee.Scale.{finite}
 use Rattle.number.specs.Number.{largest32}
 use Rattle.number.specs.Range.{isFinite, between}
 use Rattle.number.proofs.Units.{shift, fin-false, says-le}
-use Rattle.number.proofs.Comparing.{both, minus-plus, turned}
+use Rattle.number.proofs.Comparing.{minus-plus, turned}
 use Rattle.number.proofs.Sizes.{fits-plus}
 use Rattle.number.proofs.Patterns.{val, val-le, bits-are}
 use Rattle.number.proofs.Neighbours.{bits-lt, bits-val}
@@ -45,9 +46,9 @@ finite-test (inf false) f = refl
 finite-test (fin false m e) f =
     let x = fin false m e in
     is-true (between (neg largest32) largest32 x)
-    (both (le (neg largest32) x) (le x largest32) (minus-plus 16777215 (pos 104) m e) (under m e f))
+    (and-i (le (neg largest32) x) (le x largest32) (minus-plus 16777215 (pos 104) m e) (under m e f))
 finite-test (fin true m e) f =
     let x = fin true m e in
     is-true (between (neg largest32) largest32 x)
-    (both (le (neg largest32) x) (le x largest32)
+    (and-i (le (neg largest32) x) (le x largest32)
     (turned m e 16777215 (pos 104) (under m e (fits-plus true m e f))) (minus-plus m e 16777215 (pos 104)))

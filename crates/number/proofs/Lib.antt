@@ -1,8 +1,10 @@
 -- The laws of f32 that the other crates cite.
+pub mod Numbers
 pub mod Rounding
 pub mod Units
 pub mod Sums
 pub mod Products
+pub mod Plus
 pub mod Middle
 pub mod Patterns
 pub mod NoNan
@@ -12,6 +14,7 @@ pub mod Halvings
 pub mod Comparing
 pub mod Choice
 pub mod Within
+pub mod Quotients
 pub mod Signs
 pub mod Later
 pub mod Sizes

@@ -1,4 +1,5 @@
--- The rounded midpoint of two numbers that need no rounding, in units of 2 ^ -149: it lies between the two, and where a number that needs no rounding lies strictly between, it lies in the middle third.
+-- The rounded midpoint of two numbers that need no rounding, in units of 2 ^ -149: it lies between the two, and where
+-- a number that needs no rounding lies strictly between, it lies in the middle third.
 -- Assumes nothing.
 use mathlib.Core.Path.{_≡_, refl, sym, ap, _∙_, subst}
 use mathlib.Core.Logic.{_⊎_, inl, inr}
@@ -17,9 +18,11 @@ use Rattle.number.proofs.Rounding.{drop-reaches, kept-le, size-mono, Ne
 abbrev pub mid : ℕ → ℕ
 mid s = rnd (rnd s 1) 2
 
--- M is a multiple of 2 ^ k and half of s to within a half of 2 ^ k; and where k is above 0, s is so large that 2 ^ k is the step of the numbers about half of s
-abbrev pub Mid : ℕ → ℕ → Type 0
-Mid s M = (k : ℕ) × (q : ℕ) × (M ≡ q * 2 ^ k) × (M * 2 ≤ s + 2 ^ k) × (s ≤ M * 2 + 2 ^ k) × ((k ≡ 0) ⊎ (2 ^ (24 + k) ≤ s))
+-- M is a multiple of 2 ^ k and half of s to within a half of 2 ^ k; and where k is above 0, s is so large that 2 ^ k
+-- is the step of the numbers about half of s
+abbrev Mid : ℕ → ℕ → Type 0
+Mid s M =
+    (k : ℕ) × (q : ℕ) × (M ≡ q * 2 ^ k) × (M * 2 ≤ s + 2 ^ k) × (s ≤ M * 2 + 2 ^ k) × ((k ≡ 0) ⊎ (2 ^ (24 + k) ≤ s))
 
 less-drop : (a b : ℕ) → a ≤ b → b - 24 ≡ 0 → a - 24 ≡ 0
 less-drop a b h e = omega arith
@@ -33,10 +36,17 @@ mid-small s e =
     let h = rnd-near s in
     let r : rnd s 1 ≡ s = small-sum s (2 ^ drop 24 s 1) (rnd s 1) (ap (λ (x : ℕ). 2 ^ x) e) (h .0) (h .1) in
     let z : drop 24 s 2 ≡ 0 = less-drop (size (s / 2)) (size (s / 1)) (size-mono (s / 2) (s / 1) (halves s)) e in
-    let n : Near (kept 24 s 2) s (2 * 2 ^ drop 24 s 2) = closest-near s (2 * 2 ^ drop 24 s 2) (mul-pos (pow-pos 1) (pow-pos (drop 24 s 2))) in
+    let n : Near (kept 24 s 2) s (2 * 2 ^ drop 24 s 2) =
+    closest-near s (2 * 2 ^ drop 24 s 2) (mul-pos (pow-pos 1) (pow-pos (drop 24 s 2))) in
     let p : 2 ^ drop 24 s 2 ≡ 1 = ap (λ (x : ℕ). 2 ^ x) z in
-    subst (λ (x : ℕ). Mid s (rnd x 2)) (sym r)
-    (0, rnd s 2, sym (mul-one (rnd s 2)), up (kept 24 s 2) (2 ^ drop 24 s 2) p (n .0), down (kept 24 s 2) (2 ^ drop 24 s 2) p (n .1), inl refl)
+    subst (λ (x : ℕ). Mid s (rnd x 2)) (sym r) (
+      0,
+      rnd s 2,
+      sym (mul-one (rnd s 2)),
+      up (kept 24 s 2) (2 ^ drop 24 s 2) p (n .0),
+      down (kept 24 s 2) (2 ^ drop 24 s 2) p (n .1),
+      inl refl,
+    )
   where
     halves : (s : ℕ) → s / 2 ≤ s / 1
     halves s = omega arith
@@ -54,18 +64,24 @@ mid-large s k e =
     let c = kept 24 s 1 in
     let t : 2 ^ drop 24 s 1 ≡ 2 ^ k * 2 = ap (λ (x : ℕ). 2 ^ x) e ∙ pow-suc 2 k in
     let r : rnd s 1 ≡ c * 2 ^ k * 2 = ap (λ (x : ℕ). c * x) t ∙ sym (mul-assoc c (2 ^ k) 2) in
-    let m : mid s ≡ c * 2 ^ k = ap (λ (x : ℕ). rnd x 2) r ∙ rnd-fix (c * 2 ^ k) 2 (pow-pos 1) (rep-le c k (kept-le s 1)) in
-    let big : 2 ^ (23 + drop 24 s 1) * 1 ≤ s = drop-reaches s 1 (pow-pos 0) (subst (λ (x : ℕ). 0 < x) (sym e) (some k)) in (
+    let m : mid s ≡ c * 2 ^ k =
+    ap (λ (x : ℕ). rnd x 2) r ∙ rnd-fix (c * 2 ^ k) 2 (pow-pos 1) (rep-le c k (kept-le s 1)) in
+    let big : 2 ^ (23 + drop 24 s 1) * 1 ≤ s =
+    drop-reaches s 1 (pow-pos 0) (subst (λ (x : ℕ). 0 < x) (sym e) (some k)) in (
       k,
       c,
       m,
       up (mid s) (c * 2 ^ k) (rnd s 1) (2 ^ drop 24 s 1) (2 ^ k) m r t (h .0),
       down (mid s) (c * 2 ^ k) (rnd s 1) (2 ^ drop 24 s 1) (2 ^ k) m r t (h .1),
-      inr (le-trans (le-of-eq (ap (λ (x : ℕ). 2 ^ x) (shift k) ∙ ap (λ (x : ℕ). 2 ^ (23 + x)) (sym e) ∙ sym (mul-one (2 ^ (23 + drop 24 s 1))))) big),
+      inr (le-trans (le-of-eq reach) big),
     )
   where
     shift : (k : ℕ) → 24 + k ≡ 23 + suc k
     shift k = omega arith
+
+    reach : 2 ^ (24 + k) ≡ 2 ^ (23 + drop 24 s 1) * 1
+    reach =
+        ap (λ (x : ℕ). 2 ^ x) (shift k) ∙ ap (λ (x : ℕ). 2 ^ (23 + x)) (sym e) ∙ sym (mul-one (2 ^ (23 + drop 24 s 1)))
 
     some : (k : ℕ) → 0 < suc k
     some k = omega arith
@@ -76,7 +92,7 @@ mid-large s k e =
     down : (m c r w p : ℕ) → m ≡ c → r ≡ c * 2 → w ≡ p * 2 → s * 2 ≤ r * 2 + w → s ≤ m * 2 + p
     down m c r w p a b d h = omega arith
 
-pub mid-is : (s : ℕ) → Mid s (mid s)
+mid-is : (s : ℕ) → Mid s (mid s)
 mid-is s = go (drop 24 s 1) refl
   where
     go : (k : ℕ) → drop 24 s 1 ≡ k → Mid s (mid s)
@@ -85,13 +101,18 @@ mid-is s = go (drop 24 s 1) refl
 
 -- ---- between
 twice-rep : (u : ℕ) → Rep u → Rep (u * 2)
-twice-rep u (q, k, l, e) = (q, suc k, l, ap (λ (x : ℕ). x * 2) e ∙ mul-assoc q (2 ^ k) 2 ∙ ap (λ (x : ℕ). q * x) (sym (pow-suc 2 k)))
+twice-rep u (q, k, l, e) =
+    (q, suc k, l, ap (λ (x : ℕ). x * 2) e ∙ mul-assoc q (2 ^ k) 2 ∙ ap (λ (x : ℕ). q * x) (sym (pow-suc 2 k)))
 
 mid-twice : (u : ℕ) → Rep u → mid (u * 2) ≡ u
-mid-twice u r = ap (λ (x : ℕ). rnd x 2) (ap (λ (x : ℕ). rnd x 1) (sym (mul-one (u * 2))) ∙ rnd-fix (u * 2) 1 (pow-pos 0) (twice-rep u r)) ∙ rnd-fix u 2 (pow-pos 1) r
+mid-twice u r =
+    ap (λ (x : ℕ). rnd x 2) (ap (λ (x : ℕ). rnd x 1) (sym (mul-one (u * 2)))
+    ∙ rnd-fix (u * 2) 1 (pow-pos 0) (twice-rep u r)) ∙ rnd-fix u 2 (pow-pos 1) r
 
 mid-mono : (s t : ℕ) → s ≤ t → mid s ≤ mid t
-mid-mono s t h = rnd-mono (rnd s 1) 2 (rnd t 1) 2 (pow-pos 1) (pow-pos 1) (mul-le-mul-right 2 (rnd-mono s 1 t 1 (pow-pos 0) (pow-pos 0) (mul-le-mul-right 1 h)))
+mid-mono s t h =
+    rnd-mono (rnd s 1) 2 (rnd t 1) 2 (pow-pos 1) (pow-pos 1)
+    (mul-le-mul-right 2 (rnd-mono s 1 t 1 (pow-pos 0) (pow-pos 0) (mul-le-mul-right 1 h)))
 
 pub mid-between : (u v : ℕ) → Rep u → Rep v → u ≤ v → (u ≤ mid (u + v)) × (mid (u + v) ≤ v)
 mid-between u v p q h = (
@@ -120,7 +141,8 @@ third-far : (u v m g : ℕ) → u + g * 3 ≤ v → m * 2 ≤ u + v + g → u + 
 third-far u v m g h a b = omega arith
 
 -- u below a power of two and v above it, on a grid of half the step
-third-edge : (U W q : ℕ) → U < 16777216 → 33554432 ≤ U + W * 2 → W * 2 < U + 6 → q * 4 ≤ U + W * 2 + 2 → U + W * 2 ≤ q * 4 + 2 → Third U (W * 2) (q * 2)
+third-edge : (U W q : ℕ) → U < 16777216 → 33554432 ≤ U + W * 2 → W * 2 < U + 6 → q * 4 ≤ U + W * 2 + 2
+    → U + W * 2 ≤ q * 4 + 2 → Third U (W * 2) (q * 2)
 third-edge U W q a b c d e = omega arith
 
 third-zero : (u v r m p : ℕ) → p ≡ 1 → u < r → r < v → m * 2 ≤ u + v + p → u + v ≤ m * 2 + p → Third u v m
@@ -136,7 +158,8 @@ third-zero u v r m p e a b c d = third-grid u v m (apart u v r a b) (up c) (down
     down d = omega arith
 
 -- u is at least 2 ^ (23 + k), and the step is g = 2 ^ k from there on
-third-same : (u v r m g U W R q : ℕ) → 0 < g → u ≡ U * g → v ≡ W * g → r ≡ R * g → m ≡ q * g → u < r → r < v → m * 2 ≤ u + v + g → u + v ≤ m * 2 + g → Third u v m
+third-same : (u v r m g U W R q : ℕ) → 0 < g → u ≡ U * g → v ≡ W * g → r ≡ R * g → m ≡ q * g → u < r → r < v
+    → m * 2 ≤ u + v + g → u + v ≤ m * 2 + g → Third u v m
 third-same u v r m g U W R q G a b c d l h x y =
     let L : U < R = lt-of-mul-lt-mul-right g (omega arith) in
     let H : R < W = lt-of-mul-lt-mul-right g (omega arith) in
@@ -145,7 +168,8 @@ third-same u v r m g U W R q G a b c d l h x y =
     scale-third u v m g U W q a b d (third-zero U W R q 1 refl L H X Y)
 
 -- u is below 2 ^ 24 * h, the step is h there and 2 * h above
-third-across : (u v m h U W q : ℕ) → 0 < h → u ≡ U * h → v ≡ W * (h * 2) → m ≡ q * (h * 2) → u < 16777216 * h → 33554432 * h ≤ u + v → v < u + h * 6
+third-across : (u v m h U W q : ℕ) → 0 < h → u ≡ U * h → v ≡ W * (h * 2) → m ≡ q * (h * 2) → u < 16777216 * h
+    → 33554432 * h ≤ u + v → v < u + h * 6
     → m * 2 ≤ u + v + h * 2 → u + v ≤ m * 2 + h * 2 → Third u v m
 third-across u v m h U W q H a b d l s f x y =
     let A : U < 16777216 = lt-of-mul-lt-mul-right h (omega arith) in
@@ -155,10 +179,13 @@ third-across u v m h U W q H a b d l s f x y =
     let Y : U + W * 2 ≤ q * 4 + 2 = le-of-mul-le-mul-right (omega arith) H in
     scale-third u v m h U (W * 2) (q * 2) a (omega arith) (omega arith) (third-edge U W q A B C X Y)
 
-third-step : (u v r m k q : ℕ) → Rep u → Rep v → Rep r → u < r → r < v → m ≡ q * 2 ^ suc k → m * 2 ≤ u + v + 2 ^ suc k → u + v ≤ m * 2 + 2 ^ suc k → 2 ^ (24 + suc k) ≤ u + v → Third u v m
+third-step : (u v r m k q : ℕ) → Rep u → Rep v → Rep r → u < r → r < v → m ≡ q * 2 ^ suc k → m * 2 ≤ u + v + 2 ^ suc k
+    → u + v ≤ m * 2 + 2 ^ suc k → 2 ^ (24 + suc k) ≤ u + v → Third u v m
 third-step u v r m k q pu pv pr l h e x y big =
     let g = 2 ^ suc k in
-    let w : (z : ℕ) × (v ≡ z * g) = rep-grid v (suc k) pv (half u v (2 ^ (23 + suc k)) (2 ^ (24 + suc k)) (lower u v r l h) (pow-suc' (23 + suc k) (24 + suc k) (next (suc k))) big) in
+    let w : (z : ℕ) × (v ≡ z * g) =
+    rep-grid v (suc k) pv (half u v (2 ^ (23 + suc k)) (2 ^ (24 + suc k)) (lower u v r l h)
+    (pow-suc' (23 + suc k) (24 + suc k) (next (suc k))) big) in
     go w (decLe (2 ^ (23 + suc k)) u) (decLe (u + g * 3) v)
   where
     lower : (u v r : ℕ) → u < r → r < v → u < v
@@ -190,7 +217,8 @@ third-step u v r m k q pu pv pr l h e x y big =
         let C : 2 ^ (23 + k) ≡ 8388608 * p = pow-add 2 23 k in
         let g : 2 ^ (23 + k) ≤ u = omega arith in
         let U = rep-grid u k pu g in
-        third-across u v m p (U .0) z q (pow-pos k) (U .1) (w ∙ ap (λ (t : ℕ). z * t) P) (e ∙ ap (λ (t : ℕ). q * t) P) (omega arith) (omega arith) (omega arith) (omega arith) (omega arith)
+        third-across u v m p (U .0) z q (pow-pos k) (U .1) (w ∙ ap (λ (t : ℕ). z * t) P) (e ∙ ap (λ (t : ℕ). q * t) P)
+        (omega arith) (omega arith) (omega arith) (omega arith) (omega arith)
 
 -- where a number that needs no rounding lies strictly between u and v, the midpoint lies in the middle third
 pub mid-third : (u v r : ℕ) → Rep u → Rep v → Rep r → u < r → r < v → Third u v (mid (u + v))

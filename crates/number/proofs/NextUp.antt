@@ -1,10 +1,10 @@
 -- The next f32 up (`nextUp`, specs/Number.antt) by bit patterns, for every f32. Assumes nothing.
 use mathlib.Core.Path.{_≡_, refl, sym, ap, _∙_, subst}
+use mathlib.Core.Bool.{Bool, true, false, not, _||_, Bool·beq, true≢false}
 use Prim.Native.Nat.{ℕ, zero, suc, _+_, _-_, _*_, _%_, _^_, _≤_, _<_}
 use native.Mathlib.Nat.{le-of-eq, lt-irrefl, lt-of-lt-of-le, lt-of-le-of-lt, not-le-of-lt, zero-lt-suc, mul-pos}
 use native.Mathlib.Numerals.{add-one}
 use native.Mathlib.Omega.{arith}
-use mathlib.Core.Bool.{Bool, true, false, not, _||_, Bool·beq, true≢false}
 use lib.Dec.{T, eqb, eqb→eq, lit<, lit≤}
 use lib.IntN.{ℤ}
 use lib.Ieee.{Float, nan, inf, fin, binary32, up, down, eq, ne, fits, lt, isNan, nanBits, level, toBits, ofBits}
@@ -13,7 +13,9 @@ use lib.Ieee.Compare.{differs-from-itself}
 use lib.Ieee.Fits.{and-i, and-l, eq→eqb, up-pos}
 use lib.Ieee.Scale.{finite}
 use Rattle.number.specs.Number.{zero32, nextUp}
-use Rattle.number.proofs.Units.{L, Is, Unit32, plus, shift, fin-false, pattern-is, says-lt, lt-says}
+use Rattle.number.proofs.Numbers.{zero-size}
+use Rattle.number.proofs.Units.{none-is, Is, finite-is, Unit32, plus, shift, fin-false, pattern-is, says-lt}
+use Rattle.number.proofs.Units.{lt-says}
 use Rattle.number.proofs.Within.{or-r}
 use Rattle.number.proofs.Patterns.{no-nan-bits, bits-no-nan, val, val-next, val-back, bits-are}
 use Rattle.number.proofs.Neighbours.{bits-lt, bits-val, after, below-finite}
@@ -57,7 +59,7 @@ up-top x f h =
     e ∙ ap nextUp (sym e)
 
 -- equal to zero means a significand of 0
-pub eq-zero : (s : Bool) (m : ℕ) (e : ℤ) → eq (fin s (suc m) e) zero32 ≡ true → ⊥
+eq-zero : (s : Bool) (m : ℕ) (e : ℤ) → eq (fin s (suc m) e) zero32 ≡ true → ⊥
 unfolding eq ofBits
 eq-zero s m e h =
     let a = suc m * up e * 1 in
@@ -70,13 +72,12 @@ eq-zero s m e h =
 
 zero-eq : (s : Bool) (e : ℤ) → T (eq (fin s zero e) zero32)
 unfolding eq ofBits
-zero-eq s e = go (0 * up e * 1) (0 * 1 * down e) (none (up e) 1) (none 1 (down e)) s
+zero-eq s e = go (0 * up e * 1) (0 * 1 * down e) (zero-size (up e) 1) (zero-size 1 (down e)) s
   where
-    none : (a b : ℕ) → 0 * a * b ≡ 0
-    none a b = omega arith
-
     go : (a b : ℕ) → a ≡ 0 → b ≡ 0 → (s : Bool) → T (level s a false b)
-    go a b p q s = and-i (eqb a b) (Bool·beq s false || eqb a 0) (eq→eqb (p ∙ sym q)) (or-r (Bool·beq s false) (eqb a 0) (eq→eqb p))
+    go a b p q s =
+        and-i (eqb a b) (Bool·beq s false || eqb a 0) (eq→eqb (p ∙ sym q))
+        (or-r (Bool·beq s false) (eqb a 0) (eq→eqb p))
 
 pub up-zero : (x : Float) → eq x zero32 ≡ true → ofBits binary32 1 ≡ nextUp x
 unfolding nextUp eq ofBits
@@ -105,19 +106,14 @@ up-minus (inf true) f n z l = ap (ofBits binary32) (unfold toBits in refl)
 up-minus (inf false) f n z l = absurd (unfold toBits in not-le-of-lt (lit< tt) l)
 up-minus (fin s zero e) f n z l = absurd (subst T z (zero-eq s e))
 up-minus (fin false (suc m) e) f n z l =
-    absurd (not-le-of-lt (lt-of-lt-of-le (bits-lt (fin false (suc m) e) (suc m * 2 ^ shift e) f tt (fin-false (suc m) e f)) (lit≤ tt)) l)
+    let h = bits-lt (fin false (suc m) e) (suc m * 2 ^ shift e) f tt (fin-false (suc m) e f) in
+    absurd (not-le-of-lt (lt-of-lt-of-le h (lit≤ tt)) l)
 up-minus (fin true (suc m) e) f n z l = refl
 
 -- ---- from zero up the next value has the next pattern
-pub finite-is : (x : Float) (u : ℕ) → Is x u → T (finite x)
-finite-is (fin s m e) u i = tt
-
 zero-pattern : (e : ℤ) → toBits binary32 (fin false 0 e) ≡ 0
 unfolding lib.Ieee.size
-zero-pattern e = pattern-is (fin false 0 e) 0 tt (none (up e) L (down e))
-  where
-    none : (a b c : ℕ) → 0 * a * b ≡ 0 * c
-    none a b c = omega arith
+zero-pattern e = pattern-is (fin false 0 e) 0 tt (none-is e)
 
 pub next-up-is : (x : Float) → T (finite x) → T (plus x) → nextUp x ≡ ofBits binary32 (suc (toBits binary32 x))
 unfolding nextUp

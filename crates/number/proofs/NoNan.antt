@@ -1,13 +1,15 @@
--- Where a value is no NaN: by a program's own tests, and by a bit pattern. Assumes nothing.
+-- Where a value is no NaN: by a program's own tests, by a bit pattern, and where it was rounded. Assumes nothing.
 use mathlib.Core.Path.{_≡_, sym, _∙_, subst}
-use Prim.Native.Nat.{ℕ, _%_, _≤_}
-use mathlib.Core.Bool.{Bool, true, false, not, _&&_, true≢false}
-use lib.Dec.{T}
-use lib.Ieee.{Float, nan, inf, fin, binary32, binary64, ne, lt, le, fits, isNan, ofBits}
+use mathlib.Core.Bool.{Bool, true, false, not, _&&_, true≢false, cond}
+use Prim.Native.Nat.{ℕ, _%_, _≤_, zero, suc, _*_, _^_}
+use lib.Dec.{T, ltb}
+use lib.Ieee.{Float, nan, inf, fin, binary32, binary64, ne, lt, le, fits, isNan, ofBits, round, units, odd}
 use lib.Ieee.Bits.{ofBits-fits, nanBits-is}
 use lib.Ieee.Compare.{nan-differs}
-use lib.Ieee.Fits.{and-i, and-l, fits-widens}
+use lib.Ieee.Fits.{and-i, and-l, fits-widens, round-is}
+use lib.Ieee.Order.{drop, kept}
 use Rattle.number.proofs.Patterns.{no-nan-bits}
+use Rattle.number.proofs.Units.{L}
 
 -- the test x != x
 pub no-nan-ne : (x : Float) → ne x x ≡ false → T (not (isNan x))
@@ -35,7 +37,7 @@ pub no-nan-between : (a x b : Float) → (le a x && lt x b) ≡ true → T (not 
 no-nan-between a x b h = no-nan-le a x (and-l (le a x) (lt x b) (subst T (sym h) tt)) .1
 
 -- a pattern that is no NaN's
-pub no-nan-of : (b : ℕ) → b % 2147483648 ≤ 2139095040 → T (not (isNan (ofBits binary32 b)))
+no-nan-of : (b : ℕ) → b % 2147483648 ≤ 2139095040 → T (not (isNan (ofBits binary32 b)))
 no-nan-of b h = subst (λ (t : Bool). T (not t)) (nanBits-is binary32 b) (no-nan-bits b h)
 
 -- and an f32 of such a pattern can be cast to an f64
@@ -44,3 +46,22 @@ pub widens : (b : ℕ) → b % 2147483648 ≤ 2139095040
 widens b h =
     let x = ofBits binary32 b in
     and-i (fits binary64 x) (not (isNan x)) (fits-widens x (ofBits-fits binary32 b)) (no-nan-of b h)
+
+-- ---- what is rounded
+odd-no-nan : (d : ℕ) (s : Bool) (q k l : ℕ) → T (not (isNan (odd d s q k l)))
+unfolding odd isNan
+odd-no-nan d s zero k l = tt
+odd-no-nan d s (suc q) k l = tt
+
+units-no-nan : (s : Bool) (q k : ℕ) → T (not (isNan (units binary32 s q k)))
+unfolding units
+units-no-nan s q k = go (ltb (q * 2 ^ k) (2 ^ 277))
+  where
+    go : (b : Bool) → T (not (isNan (cond b (odd 25 s q k 149) (inf s))))
+    go true = odd-no-nan 25 s q k 149
+    go false = unfold isNan in tt
+
+pub round-no-nan : (s : Bool) (a c : ℕ) → T (not (isNan (round binary32 s a c)))
+round-no-nan s a c =
+    subst (λ (z : Float). T (not (isNan z))) (sym (round-is binary32 s a c))
+    (units-no-nan s (kept 24 (a * L) c) (drop 24 (a * L) c))

@@ -1,24 +1,25 @@
--- The bit patterns of f32: what number each stands for, in units of 2 ^ -149, and that the next pattern stands for the
--- next number. 8388608 is the weight of the exponent's field, 2139095040 plus infinity, 2147483648 the sign.
+-- The bit patterns of f32: what number each stands for, in units of 2 ^ -149, and that the next pattern stands for
+-- the next number. 8388608 is the weight of the exponent's field, 2139095040 plus infinity, 2147483648 the sign.
 -- Assumes nothing.
 use mathlib.Core.Path.{_≡_, refl, sym, ap, _∙_, subst}
 use mathlib.Core.Logic.{_⊎_, inl, inr}
+use mathlib.Core.Bool.{Bool, false, cond, not}
 use Prim.Native.Nat.{ℕ, zero, suc, _+_, _-_, _*_, _/_, _%_, _^_, _≤_, _<_}
 use native.Mathlib.Nat.{le-of-eq, le-of-lt, lt-irrefl, lt-of-lt-of-le, lt-of-not-le, eq-or-lt-of-le, mul-assoc}
 use native.Mathlib.Nat.{add-mul, one-mul, pow-succ'}
 use native.Mathlib.Numerals.{add-one}
 use native.Mathlib.Omega.{arith}
 use native.Mathlib.Decide.{le-ind}
-use mathlib.Core.Bool.{Bool, false, cond, not}
 use lib.Dec.{T, leb, ltb, eqb, leb→le, ltb→lt, nltb→le, eqb→eq, not-T}
 use lib.Pow.{pow-pos}
 use lib.Ieee.{Float, nan, inf, binary32, odd, fits, isNan, ofFields, ofBits, toBits, nanBits}
 use lib.Ieee.Bits.{is-false, cond-no, ofBits-toBits, toBits-ofBits, nanBits-is, nanBits-above}
 use lib.Ieee.Exact.{HasValue, odd-sign}
+use Rattle.number.proofs.Numbers.{le-of-not-lt}
 use Rattle.number.proofs.Units.{L, Is}
 use Rattle.number.proofs.Sums.{to-is}
 
-pub ofBits-is : (b : ℕ)
+ofBits-is : (b : ℕ)
     → ofBits binary32 b ≡ ofFields binary32 (leb 2147483648 b) (b % 2147483648 / 8388608) (b % 8388608)
 unfolding ofBits
 ofBits-is b = refl
@@ -42,7 +43,8 @@ fields-value s (suc x) t h =
     differ : (x : ℕ) → suc x < 255 → suc x ≡ 255 → ⊥
     differ x h e = omega arith
 
--- ---- the number of a pattern of sign plus: (b - w * 2 ^ 23) * 2 ^ w, with w one less than the field, but 0 at field 0
+-- ---- the number of a pattern of sign plus: (b - w * 2 ^ 23) * 2 ^ w, with w one less than the field, but 0 at field
+-- 0
 abbrev pub weight : ℕ → ℕ
 weight b = b / 8388608 - 1
 
@@ -68,7 +70,7 @@ field-size (suc x) t b e f =
     one e = omega arith
 
 -- what any pattern but an infinity's or a NaN's stands for
-pub bits-value : (b : ℕ) → b % 2147483648 / 8388608 < 255
+bits-value : (b : ℕ) → b % 2147483648 / 8388608 < 255
     → HasValue (ofBits binary32 b) (leb 2147483648 b) (val (b % 2147483648)) L
 bits-value b h =
     let x = b % 2147483648 / 8388608 in
@@ -153,6 +155,9 @@ val-le b c h = elim (eq-or-lt-of-le h) [ inl e ↦ le-of-eq (ap val e) | inr l �
 
 pub val-back : (b c : ℕ) → val b < val c → b < c
 val-back b c h = lt-of-not-le (λ (l : c ≤ b). lt-irrefl (val b) (lt-of-lt-of-le h (val-le c b l)))
+
+pub val-le-back : (b c : ℕ) → val b ≤ val c → b ≤ c
+val-le-back b c h = le-of-not-lt (λ (l : c < b). lt-irrefl (val c) (lt-of-lt-of-le (val-lt c b l) h))
 
 -- ---- which patterns are a NaN's
 pub no-nan-bits : (b : ℕ) → b % 2147483648 ≤ 2139095040 → T (not (nanBits binary32 b))

@@ -1,15 +1,15 @@
--- What the range tests of specs/Range.antt tell: finite, of what size at most, of what size at least. And the size of a
--- constant by its bit pattern. Assumes nothing.
+-- What the range tests of specs/Range.antt tell: finite, of what size at most, of what size at least. And the size of
+-- a constant by its bit pattern. Assumes nothing.
 use mathlib.Core.Path.{_≡_, sym, ap, _∙_, subst}
 use mathlib.Core.Logic.{inl, inr}
+use mathlib.Core.Bool.{Bool, true, false, _&&_, _||_}
 use Prim.Native.Nat.{ℕ, suc, _+_, _-_, _*_, _^_, _≤_, _<_}
-use native.Mathlib.Nat.{le-trans, le-of-eq, lt-of-le-of-lt, eq-zero-or-pos}
+use native.Mathlib.Nat.{le-trans, le-of-eq, lt-of-le-of-lt, eq-zero-or-pos, le-of-lt}
 use native.Mathlib.Omega.{arith}
-use mathlib.Core.Bool.{true, false}
-use lib.Dec.{T, eqb, eqb→eq, lt→ltb}
+use lib.Dec.{T, eqb, eqb→eq, lt→ltb, ltb, ltb→lt}
 use lib.IntN.{pos, negsuc}
 use lib.Pow.{pow-add}
-use lib.Ieee.{Float, inf, fin, binary32, up, down, neg, lt, le, ofBits}
+use lib.Ieee.{Float, inf, fin, binary32, up, down, neg, lt, le, ofBits, nan}
 use lib.Ieee.Fits.{and-l, and-r, down-pos}
 use lib.Ieee.Scale.{finite}
 use Rattle.number.specs.Number.{zero32, one32}
@@ -17,7 +17,7 @@ use Rattle.number.specs.Range.{limit, minusLimit, leastSpeed, mostSpeed,
 use Rattle.number.specs.Range.{aboveZeroToOne, speedRange}
 use Rattle.number.proofs.Units.{L}
 use Rattle.number.proofs.Within.{Within, within-finite, units-within}
-use Rattle.number.proofs.Signs.{power, within-tests, le-of-tests, AtLeast}
+use Rattle.number.proofs.Quotients.{AtLeast}
 use Rattle.number.proofs.Comparing.{lt-le, minus-plus}
 use Rattle.number.proofs.Patterns.{val, weight, val-le, bits-are}
 
@@ -47,6 +47,38 @@ bits-within a b l h =
       where
         sum : (a : ℕ) → 23 + (126 + a) ≡ a + 149
         sum a = omega arith
+
+-- ---- `Within` from tests: -2 ^ a ≤ x and x ≤ 2 ^ a
+abbrev pub power : ℕ → Float
+power a = fin false 1 (pos a)
+
+abbrev pub minus-power : ℕ → Float
+minus-power a = fin true 1 (pos a)
+
+pub le-of-tests : (A B : ℕ) (c : Bool) → (T c → A ≡ B) → T (ltb A B || (c && true)) → A ≤ B
+le-of-tests A B c f t = go (ltb A B) c (ltb→lt A B) f t
+  where
+    go : (b c : Bool) → (T b → A < B) → (T c → A ≡ B) → T (b || (c && true)) → A ≤ B
+    go true c g f t = le-of-lt (g tt)
+    go false true g f t = le-of-eq (f tt)
+    go false false g f t = absurd t
+
+plain : (a m u d : ℕ) → m * u * 1 ≤ 1 * a * d → m * u ≤ a * d
+plain a m u d h = omega arith
+
+pub within-tests : (a : ℕ) (x : Float) → T (le (minus-power a) x) → T (le x (power a)) → Within a x
+unfolding le
+within-tests a nan h k = h
+within-tests a (inf true) h k = h
+within-tests a (inf false) h k = k
+within-tests a (fin false m e) h k =
+    plain (2 ^ a) m (up e) (down e)
+    (le-of-tests (m * up e * 1) (1 * 2 ^ a * down e) (eqb (m * up e * 1) (1 * 2 ^ a * down e))
+    (eqb→eq (m * up e * 1) (1 * 2 ^ a * down e)) k)
+within-tests a (fin true m e) h k =
+    plain (2 ^ a) m (up e) (down e)
+    (le-of-tests (m * up e * 1) (1 * 2 ^ a * down e) (eqb (1 * 2 ^ a * down e) (m * up e * 1))
+    (λ t. sym (eqb→eq (1 * 2 ^ a * down e) (m * up e * 1) t)) h)
 
 -- ---- from zero to 2 ^ a
 pub within-above : (a : ℕ) (x : Float) → T (le zero32 x) → T (le x (power a)) → Within a x

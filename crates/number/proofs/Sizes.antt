@@ -1,27 +1,22 @@
--- The absolute value `size` (specs/Number.antt): what `0 - x` is for an x not above zero, and that a size has the sign
--- plus, fits where its number does, and keeps its bound. Assumes nothing.
+-- The absolute value `size` (specs/Number.antt): what `0 - x` is for an x not above zero, and that a size has the
+-- sign plus, fits where its number does, and keeps its bound. Assumes nothing.
 use mathlib.Core.Path.{_≡_, refl, sym, ap, _∙_, subst}
+use mathlib.Core.Bool.{Bool, true, false, not, true≢false}
 use Prim.Native.Nat.{ℕ, zero, suc, _+_, _*_, _^_, _<_}
 use native.Mathlib.Nat.{lt-irrefl, lt-of-lt-of-le, mul-one, mul-pos, zero-add}
 use native.Mathlib.Omega.{arith}
-use mathlib.Core.Bool.{Bool, true, false, not, true≢false}
 use lib.Dec.{T}
 use lib.IntN.{ℤ}
 use lib.Pow.{pow-pos}
-use lib.Ieee.{Float, nan, inf, fin, binary32, up, down, sub, neg, le, fits, isNan, ofBits}
+use lib.Ieee.{Float, nan, inf, fin, binary32, sub, neg, le, fits, isNan, ofBits}
 use lib.Ieee.Bits.{ofBits-fits}
 use lib.Ieee.Fits.{add-fits}
-use lib.Ieee.Scale.{finite}
 use Rattle.number.specs.Number.{_⊕_, _⊖_, zero32, size}
 use Rattle.number.proofs.Rounding.{rnd, rnd-fix}
-use Rattle.number.proofs.Units.{L, Top, Is, plus, shift, fin-false, same-float, le-says}
+use Rattle.number.proofs.Units.{none-is, zero-is, Top, Is, plus, shift, fin-false, same-float, le-says}
 use Rattle.number.proofs.Sums.{add-is}
 use Rattle.number.proofs.Within.{Within, not-lt-le}
 use Rattle.number.proofs.Signs.{sum-plus}
-
-zero-is : Is zero32 0
-unfolding ofBits
-zero-is = refl
 
 zero-plus : T (plus zero32)
 unfolding ofBits
@@ -32,7 +27,8 @@ sum-zero : (m : ℕ) (e : ℤ) → T (fits binary32 (fin false m e)) → zero32 
 sum-zero m e f =
     let u = m * 2 ^ shift e in
     let i = fin-false m e f in
-    let r : rnd (0 + u) 1 ≡ u = ap (λ (x : ℕ). rnd x 1) (zero-add u ∙ sym (mul-one u)) ∙ rnd-fix u 1 (pow-pos 0) (i .rep) in
+    let r : rnd (0 + u) 1 ≡ u =
+    ap (λ (x : ℕ). rnd x 1) (zero-add u ∙ sym (mul-one u)) ∙ rnd-fix u 1 (pow-pos 0) (i .rep) in
     same-float (zero32 ⊕ fin false m e) (fin false m e) u (add-fits binary32 zero32 (fin false m e)) f
     (sum-plus zero32 (fin false m e) zero-plus tt) tt
     (subst (λ (x : ℕ). Is (zero32 ⊕ fin false m e) x) r
@@ -41,10 +37,7 @@ sum-zero m e f =
 
 only-zero : (e : ℤ) → T (fits binary32 (fin false 0 e)) → fin false 0 e ≡ zero32
 only-zero e f =
-    same-float (fin false 0 e) zero32 0 f (ofBits-fits binary32 0) tt zero-plus (none (up e) L (down e)) zero-is
-  where
-    none : (a b c : ℕ) → 0 * a * b ≡ 0 * c
-    none a b c = omega arith
+    same-float (fin false 0 e) zero32 0 f (ofBits-fits binary32 0) tt zero-plus (none-is e) zero-is
 
 zero-sub : zero32 ⊖ zero32 ≡ zero32
 unfolding sub ofBits
@@ -104,7 +97,3 @@ size-fits (fin s (suc m) e) f = f
 pub size-within : (a : ℕ) (x : Float) → Within a x → Within a (size x)
 unfolding size
 size-within a (fin s m e) h = h
-
-pub size-finite : (x : Float) → T (finite x) → T (finite (size x))
-unfolding size
-size-finite (fin s m e) h = tt

@@ -1,11 +1,12 @@
--- The halving of a span of f32 times between 0 and 1, until the computed window repeats: it ends at neighbours, after at most 255 halvings. Assumes nothing.
+-- One halving of a span of f32 times between 0 and 1, in units of 2 ^ -149: the computed midpoint and window, the
+-- halved span, and that nothing lies between the ends where the computed window repeats. Assumes nothing.
 use mathlib.Core.Path.{_≡_, refl, sym, subst}
 use mathlib.Core.Logic.{_⊎_, inl, inr}
+use mathlib.Core.Bool.{true, false}
 use Prim.Native.Nat.{ℕ, _+_, _-_, _*_, _^_, _≤_, _<_}
 use native.Mathlib.Nat.{le-refl, le-trans, le-of-eq, le-of-lt, lt-of-lt-of-le, lt-of-le-of-lt, lt-irrefl, add-comm}
 use native.Mathlib.Nat.{mul-le-mul-right}
 use native.Mathlib.Omega.{arith}
-use mathlib.Core.Bool.{Bool, true, false}
 use lib.Dec.{T, ltb→lt, leb→le, eqb→eq, lit<, lit≤}
 use lib.Pow.{pow-pos}
 use lib.Ieee.{Float, nan, inf, fin, binary32, add, lt, le, eq, fits, ofBits}
@@ -16,7 +17,8 @@ use Rattle.number.proofs.Rounding.{rnd, Rep, rnd-mono, rnd-fix, rnd-rep
 use Rattle.number.proofs.Middle.{mid, mid-between, mid-third, Third}
 use Rattle.number.proofs.Units.{L, Top, Is, Unit32, lt-is, le-is, eq-is, of-float}
 use Rattle.number.proofs.Neighbours.{after, below-finite}
-use Rattle.number.proofs.Sums.{add-is, sub-is, half-is}
+use Rattle.number.proofs.Sums.{add-is, sub-is}
+use Rattle.number.proofs.Products.{half-is}
 
 -- ---- a span, in units
 pub record Span (lo hi : Float) (u v : ℕ) : Type 0 where
@@ -24,9 +26,6 @@ pub record Span (lo hi : Float) (u v : ℕ) : Type 0 where
   pub high : Unit32 hi v
   pub order : u < v
   pub top : v ≤ L
-
-pub T-of : {b c : Bool} → b ≡ c → T b → T c
-T-of e t = subst T e t
 
 one-is : Is one32 L
 unfolding ofBits
@@ -48,7 +47,8 @@ high-finite (fin s m e) (inf true) u p a b = a
 high-finite (fin s m e) (inf false) u p a b = b
 high-finite (fin s m e) (fin t n d) u p a b = tt
 
-pub span-of : (lo hi : Float) → T (fits binary32 lo) → T (fits binary32 hi) → T (le zero32 lo) → T (lt lo hi) → T (le hi one32) → (u : ℕ) × (v : ℕ) × Span lo hi u v
+pub span-of : (lo hi : Float) → T (fits binary32 lo) → T (fits binary32 hi) → T (le zero32 lo) → T (lt lo hi)
+    → T (le hi one32) → (u : ℕ) × (v : ℕ) × Span lo hi u v
 span-of lo hi f g z l o =
     let a = of-float lo f (low-finite lo hi z l) z in
     let i = a .1 .is in
@@ -59,8 +59,8 @@ span-of lo hi f g z l o =
       record {
         low = a .1;
         high = b .1;
-        order = ltb→lt (a .0) (b .0) (T-of (lt-is lo hi (a .0) (b .0) i j) l);
-        top = leb→le (b .0) L (T-of (le-is hi one32 (b .0) L j one-is) o);
+        order = ltb→lt (a .0) (b .0) (subst T (lt-is lo hi (a .0) (b .0) i j) l);
+        top = leb→le (b .0) L (subst T (le-is hi one32 (b .0) L j one-is) o);
       },
     )
 
@@ -68,8 +68,10 @@ span-of lo hi f g z l o =
 rep-150 : Rep (2 ^ 150)
 rep-150 = (1, 150, lit< tt, refl)
 
-pub rnd-small : (n : ℕ) → n ≤ 2 ^ 150 → rnd n 1 < Top
-rnd-small n h = lt-of-le-of-lt (le-trans (rnd-mono n 1 (2 ^ 150) 1 (pow-pos 0) (pow-pos 0) (mul-le-mul-right 1 h)) (le-of-eq (rnd-fix (2 ^ 150) 1 (pow-pos 0) rep-150))) (lit< tt)
+rnd-small : (n : ℕ) → n ≤ 2 ^ 150 → rnd n 1 < Top
+rnd-small n h =
+    lt-of-le-of-lt (le-trans (rnd-mono n 1 (2 ^ 150) 1 (pow-pos 0) (pow-pos 0) (mul-le-mul-right 1 h))
+    (le-of-eq (rnd-fix (2 ^ 150) 1 (pow-pos 0) rep-150))) (lit< tt)
 
 two-top : (u v l : ℕ) → u < v → v ≤ l → v + u ≤ l * 2
 two-top u v l a b = omega arith
@@ -78,8 +80,10 @@ pub mid-at : (lo hi : Float) (u v : ℕ) → Span lo hi u v → Unit32 (midpoint
 mid-at lo hi u v s =
     let b = mid-between u v (s .low .rep) (s .high .rep) (le-of-lt (s .order)) in
     let t : mid (u + v) < Top = lt-of-le-of-lt (b .1) (s .high .under) in
-    let a : Is (add binary32 hi lo) (rnd (v + u) 1) = add-is hi lo v u (s .high .is) (s .low .is) (rnd-small (v + u) (two-top u v L (s .order) (s .top))) in
-    let a' : Is (add binary32 hi lo) (rnd (u + v) 1) = subst (λ (x : ℕ). Is (add binary32 hi lo) (rnd x 1)) (add-comm v u) a in
+    let a : Is (add binary32 hi lo) (rnd (v + u) 1) =
+    add-is hi lo v u (s .high .is) (s .low .is) (rnd-small (v + u) (two-top u v L (s .order) (s .top))) in
+    let a' : Is (add binary32 hi lo) (rnd (u + v) 1) =
+    subst (λ (x : ℕ). Is (add binary32 hi lo) (rnd x 1)) (add-comm v u) a in
     record { is = half-is (add binary32 hi lo) (rnd (u + v) 1) a' t; rep = rnd-rep (rnd (u + v) 1) 2; under = t }
 
 pub window-at : (lo hi : Float) (u v : ℕ) → Is lo u → Is hi v → u ≤ v → v ≤ L → Is (window lo hi) (rnd (v - u) 1)
@@ -107,7 +111,8 @@ pub record Step (lo' hi' : Float) (u v u' v' : ℕ) : Type 0 where
   pub to : v' ≤ v
   pub shrinks : (r : ℕ) → Rep r → u < r → r < v → (v' - u') * 3 ≤ (v - u) * 2
 
-pub step-at : (lo hi lo' hi' : Float) (u v : ℕ) → Span lo hi u v → Split lo hi lo' hi' → (u' : ℕ) × (v' : ℕ) × Step lo' hi' u v u' v'
+pub step-at : (lo hi lo' hi' : Float) (u v : ℕ) → Span lo hi u v → Split lo hi lo' hi'
+    → (u' : ℕ) × (v' : ℕ) × Step lo' hi' u v u' v'
 step-at lo hi lo' hi' u v s h = go h
   where
     b : (u ≤ mid (u + v)) × (mid (u + v) ≤ v)
@@ -143,20 +148,21 @@ step-at lo hi lo' hi' u v s h = go h
     )
 
 -- where the computed window repeats, nothing lies between
-pub neighbours : (lo hi lo' hi' : Float) (u v : ℕ) → Span lo hi u v → Split lo hi lo' hi' → T (eq (window lo' hi') (window lo hi)) → (w : Float) → T (fits binary32 w) → T (lt lo' w) → T (lt w hi') → ⊥
+pub neighbours : (lo hi lo' hi' : Float) (u v : ℕ) → Span lo hi u v → Split lo hi lo' hi'
+    → T (eq (window lo' hi') (window lo hi)) → (w : Float) → T (fits binary32 w) → T (lt lo' w) → T (lt w hi') → ⊥
 neighbours lo hi lo' hi' u v s h e w f a b =
     let t = step-at lo hi lo' hi' u v s h in
     let u' = t .0 in
     let v' = t .1 in
     let k = t .2 in
     let r = after lo' w u' (k .low .is) f (below-finite lo' w hi' u' v' (k .low .is) (k .high .is) a b) a .1 in
-    let x : u' < r .0 = ltb→lt u' (r .0) (T-of (lt-is lo' w u' (r .0) (k .low .is) (r .1 .is)) a) in
-    let y : r .0 < v' = ltb→lt (r .0) v' (T-of (lt-is w hi' (r .0) v' (r .1 .is) (k .high .is)) b) in
+    let x : u' < r .0 = ltb→lt u' (r .0) (subst T (lt-is lo' w u' (r .0) (k .low .is) (r .1 .is)) a) in
+    let y : r .0 < v' = ltb→lt (r .0) v' (subst T (lt-is w hi' (r .0) v' (r .1 .is) (k .high .is)) b) in
     let c = k .shrinks (r .0) (r .1 .rep) (lt-of-le-of-lt (k .from) x) (lt-of-lt-of-le y (k .to)) in
     let o : rnd (v' - u') 1 < rnd (v - u) 1 = rnd-less (v' - u') (v - u) c (some u v (s .order)) in
     let i : rnd (v' - u') 1 ≡ rnd (v - u) 1 =
     eqb→eq (rnd (v' - u') 1) (rnd (v - u) 1)
-    (T-of (eq-is (window lo' hi') (window lo hi) (rnd (v' - u') 1) (rnd (v - u) 1)
+    (subst T (eq-is (window lo' hi') (window lo hi) (rnd (v' - u') 1) (rnd (v - u) 1)
     (window-at lo' hi' u' v' (k .low .is) (k .high .is) (k .order) (le-trans (k .to) (s .top)))
     (window-at lo hi u v (s .low .is) (s .high .is) (le-of-lt (s .order)) (s .top))) e) in
     lt-irrefl (rnd (v - u) 1) (subst (λ (z : ℕ). z < rnd (v - u) 1) i o)

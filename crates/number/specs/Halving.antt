@@ -1,7 +1,7 @@
 -- The halving of a span of times over any test (docs/01-scope.md, "The walk"): midpoints, until the computed window
 -- repeats. The last halving, which moves nothing, is counted. Definitions only.
-use Prim.Native.Nat.{ℕ, zero, suc}
 use mathlib.Core.Bool.{Bool, true, false, cond}
+use Prim.Native.Nat.{ℕ, zero, suc}
 use lib.Ieee.{Float, eq}
 use Rattle.number.specs.Number.{_⊕_, _⊖_, _⊗_, half32}
 

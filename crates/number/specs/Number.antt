@@ -1,7 +1,7 @@
 -- The single-precision numbers: the four operations, each rounded once to nearest even (docs/01-scope.md, opening),
 -- and the number helpers (docs/01-scope.md, "Number helpers"). Definitions only.
-use Prim.Native.Nat.{zero, suc, _-_}
 use mathlib.Core.Bool.{true, false, cond}
+use Prim.Native.Nat.{zero, suc, _-_}
 use lib.Ieee.{Float, nan, inf, fin, binary32, add, sub, mul, div, lt, toBits, ofBits}
 
 infixl 65 _⊕_ _⊖_

@@ -1,7 +1,7 @@
--- The square root (docs/01-scope.md, "Square root and norm"): the f32 nearest to the exact root, ties to even, found by
--- comparing whole-number squares. Definitions only.
-use Prim.Native.Nat.{ℕ, zero, suc, _+_, _-_, _*_, _/_, _%_, _^_}
+-- The square root (docs/01-scope.md, "Square root and norm"): the f32 nearest to the exact root, ties to even, found
+-- by comparing whole-number squares. Definitions only.
 use mathlib.Core.Bool.{Bool, cond, _&&_, _||_}
+use Prim.Native.Nat.{ℕ, zero, suc, _+_, _-_, _*_, _/_, _%_, _^_}
 use lib.Dec.{ltb, eqb}
 use lib.Ieee.{Float, nan, inf, fin, binary32, up, down, lt, ofBits}
 use Rattle.number.specs.Number.{zero32}

@@ -1,6 +1,6 @@
 -- What the inner functions of the square root promise each other; no public statement cites it. Definitions only.
-use Prim.Native.Nat.{ℕ, _+_, _-_, _*_, _/_, _%_, _^_, _<_, _≤_}
 use mathlib.Core.Path.{_≡_}
+use Prim.Native.Nat.{ℕ, _+_, _-_, _*_, _/_, _%_, _^_, _<_, _≤_}
 
 -- the whole number whose root has 24 digits: p with as many zeros behind it as make the exponent k even
 abbrev pub wholeOf : ℕ → ℕ → ℕ

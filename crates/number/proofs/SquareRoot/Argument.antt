@@ -1,12 +1,13 @@
--- The argument of the square root by its pattern: which patterns are above zero, what the definition answers elsewhere,
--- and the number of 24 digits whose root is taken, for a normal and for a subnormal argument. Assumes nothing.
+-- The argument of the square root by its pattern: which patterns are above zero, what the definition answers
+-- elsewhere, and the number of 24 digits whose root is taken, for a normal and for a subnormal argument. Assumes
+-- nothing.
 use mathlib.Core.Path.{_≡_, refl, sym, ap, _∙_, subst}
 use mathlib.Core.Logic.{inl, inr}
+use mathlib.Core.Bool.{Bool, false, cond, _&&_}
 use Prim.Native.Nat.{ℕ, suc, _+_, _-_, _*_, _/_, _%_, _^_, _≤_, _<_}
 use native.Mathlib.Nat.{le-trans, le-of-eq, le-of-lt, le-refl, lt-of-lt-of-le, lt-of-not-le, lt-irrefl}
 use native.Mathlib.Nat.{eq-zero-or-pos, mul-assoc, mul-one, mul-le-mul-right}
 use native.Mathlib.Omega.{arith}
-use mathlib.Core.Bool.{Bool, false, cond, _&&_}
 use lib.Dec.{T, ltb→lt}
 use lib.IntN.{ℤ}
 use lib.Pow.{pow-add, pow-mono, shl-lt, shl-exact}
@@ -27,7 +28,7 @@ unfolding rootOf
 not-above x h =
     sym (ap (λ (c : Bool). cond (c && isFinite x) (ofBits binary32 (last (reaches x) 31 0)) zero32) h)
 
-pub infinite : zero32 ≡ rootOf (inf false)
+infinite : zero32 ≡ rootOf (inf false)
 unfolding rootOf lt isFinite ofBits
 infinite = refl
 
@@ -39,7 +40,7 @@ zero-not-above e h = none (down e) (up e) (ltb→lt (0 * down e) (0 * up e * 1) 
     none : (a b : ℕ) → 0 * a < 0 * b * 1 → ⊥
     none a b h = omega arith
 
-pub above-bits : (x : Float) → T (fits binary32 x) → T (lt zero32 x) → toBits binary32 x ≤ 2139095040
+above-bits : (x : Float) → T (fits binary32 x) → T (lt zero32 x) → toBits binary32 x ≤ 2139095040
 unfolding lt ofBits
 above-bits (inf false) f h = unfold toBits in le-refl 2139095040
 above-bits (fin false m e) f h = le-of-lt (bits-lt (fin false m e) (m * 2 ^ shift e) f tt (fin-false m e f))
@@ -73,7 +74,7 @@ module _ (x : Float) (f : T (fits binary32 x)) (a : T (lt zero32 x)) where
       go : (y : Float) → Is y (val b) → T (isFinite y)
       go (fin s m e) i = tt
 
-  pub count-own : b < 2139095040 → count x ≡ val b
+  count-own : b < 2139095040 → count x ≡ val b
   count-own h = ap count (sym own) ∙ count-bits b h
 
   -- ---- a normal argument

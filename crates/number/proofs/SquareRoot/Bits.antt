@@ -1,12 +1,12 @@
 -- The pattern that `root_bits` makes is that of the nearest root. Assumes nothing.
 use mathlib.Core.Path.{_≡_, sym, ap, _∙_, subst}
 use mathlib.Core.Logic.{inl, inr}
+use mathlib.Core.Bool.{not}
 use Prim.Native.Nat.{ℕ, _+_, _-_, _*_, _/_, _%_, _^_, _≤_, _<_}
 use native.Mathlib.Nat.{le-trans, le-of-eq, lt-of-lt-of-le, lt-of-le-of-lt, lt-irrefl, eq-or-lt-of-le, add-sub-cancel}
 use native.Mathlib.Nat.{add-mul, one-mul, mul-assoc, mul-mul-mul-comm, mul-le-mul-right, mul-lt-mul-of-pos-right}
 use native.Mathlib.Nat.{mul-pos}
 use native.Mathlib.Omega.{arith}
-use mathlib.Core.Bool.{not}
 use lib.Dec.{T, not-T}
 use lib.Pow.{pow-add, pow-pos}
 use lib.Ieee.{Float, binary32, lt, ofBits}
@@ -14,10 +14,11 @@ use Rattle.number.specs.Number.{zero32}
 use Rattle.number.specs.Range.{isFinite}
 use Rattle.number.specs.Root.{count, twiceMiddle, twiceRootSquared, reaches, rootOf}
 use Rattle.number.specs.RootDigits.{RootBits, wholeOf}
+use Rattle.number.proofs.Numbers.{square-mono}
 use Rattle.number.proofs.Units.{L}
 use Rattle.number.proofs.Patterns.{val, weight, val-step}
 use Rattle.number.proofs.SquareRoot.Digits.{whole-ge}
-use Rattle.number.proofs.SquareRoot.Nearest.{square-mono, middle-is, reached, reach, root-at}
+use Rattle.number.proofs.SquareRoot.Nearest.{middle-is, reached, reach, root-at}
 
 -- the weight of the last of the root's digits
 abbrev pub unit : ℕ → ℕ

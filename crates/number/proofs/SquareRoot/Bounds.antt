@@ -1,11 +1,11 @@
--- What a caller wants of the root of a positive finite x: it is an f32 of sign plus, above zero, a whole number of units
--- nearest to the exact root (`Root` of Products), and of half the exponent's bound. Assumes nothing.
+-- What a caller wants of the root of a positive finite x: it is an f32 of sign plus, above zero, a whole number of
+-- units nearest to the exact root (`Root` of Products), and of half the exponent's bound. Assumes nothing.
 use mathlib.Core.Path.{_≡_, refl, sym, ap, _∙_, subst}
+use mathlib.Core.Bool.{Bool, true, false, _&&_}
 use Prim.Native.Nat.{ℕ, _+_, _*_, _/_, _^_, _≤_, _<_, zero-le}
 use native.Mathlib.Nat.{le-trans, le-of-eq, le-of-lt, lt-of-lt-of-le, lt-of-le-of-lt, not-le-of-lt, mul-comm, mul-one}
 use native.Mathlib.Nat.{one-mul, mul-assoc, mul-mul-mul-comm, mul-pos, mul-le-mul-right, mul-le-mul-left}
 use native.Mathlib.Omega.{arith}
-use mathlib.Core.Bool.{Bool, true, false, _&&_}
 use lib.Dec.{T, lt→ltb, lit<}
 use lib.Pow.{pow-add, pow-pos, pow-mono, pow-lt, shl-lt}
 use lib.Ieee.{Float, fin, binary32, lt, fits, ofBits}
@@ -15,10 +15,11 @@ use Rattle.number.specs.Number.{zero32}
 use Rattle.number.specs.Range.{isFinite}
 use Rattle.number.specs.Root.{count, twiceRootSquared, reaches, last, rootOf}
 use Rattle.number.specs.RootDigits.{wholeOf}
-use Rattle.number.proofs.Units.{L, Top, Is, Unit32, plus, says-lt}
+use Rattle.number.proofs.Numbers.{le-of-not-lt, square-back}
+use Rattle.number.proofs.Units.{L, Top, Is, Unit32, plus, zero-is, says-lt}
 use Rattle.number.proofs.Products.{Root}
 use Rattle.number.proofs.Within.{Within, within-finite, within-units, units-within}
-use Rattle.number.proofs.Signs.{power}
+use Rattle.number.proofs.Ranges.{power}
 use Rattle.number.proofs.Neighbours.{after}
 use Rattle.number.proofs.Patterns.{val, bits-are}
 use Rattle.number.proofs.SquareRoot.Nearest.{count-is}
@@ -41,10 +42,6 @@ pub record RootUnits (x : Float) (u : ℕ) : Type 0 where
   pub sign : T (plus (rootOf x))
   pub above : T (lt zero32 (rootOf x))
   pub near : Root (u * L) units
-
-zero-is : Is zero32 0
-unfolding ofBits
-zero-is = refl
 
 real : (x : Float) (u : ℕ) → Is x u → T (isFinite x)
 unfolding isFinite
@@ -153,13 +150,10 @@ above-within a x l f p h =
     let b : w < s → (s + w) * (s + w) ≤ twiceRootSquared x = rw (power-count a, r) at (n .below) in
     units-within a (rootOf x) s (k .is .is)
     (le-of-not-lt (λ (g : w < s).
-    not-le-of-lt g (half s w (theorem.root-le (s + w) (w + w) (le-trans (b g) (target-le a x (i .0) (i .1 .is) h))))))
+    not-le-of-lt g (half s w (square-back (s + w) (w + w) (le-trans (b g) (target-le a x (i .0) (i .1 .is) h))))))
   where
     half : (s w : ℕ) → s + w ≤ w + w → s ≤ w
     half s w h = omega arith
-
-    le-of-not-lt : {a b : ℕ} → (a < b → ⊥) → b ≤ a
-    le-of-not-lt {a} {b} f = omega arith
 
 pub root-within : (a : ℕ) (x : Float) → a ≤ 127 → T (fits binary32 x) → Within (2 * a) x → Within a (rootOf x)
 root-within a x l f h = go (lt zero32 x) refl

@@ -1,13 +1,13 @@
--- The definition of the square root (specs/Root.antt) taken apart: the middles grow with the patterns, so every pattern
--- up to the nearest is reached and none after it, and the search finds it. Assumes nothing.
+-- The definition of the square root (specs/Root.antt) taken apart: the middles grow with the patterns, so every
+-- pattern up to the nearest is reached and none after it, and the search finds it. Assumes nothing.
 use mathlib.Core.Path.{_≡_, sym, ap, _∙_, subst}
 use mathlib.Core.Logic.{_⊎_, inl, inr}
+use mathlib.Core.Bool.{Bool, true, false, cond, not, _&&_, _||_}
 use Prim.Native.Nat.{ℕ, zero, suc, _+_, _-_, _*_, _/_, _%_, _^_, _≤_, _<_, zero-le}
 use native.Mathlib.Nat.{lt-irrefl, le-of-eq, le-of-lt, lt-of-lt-of-le, lt-of-le-of-lt, lt-of-not-le, eq-or-lt-of-le}
-use native.Mathlib.Nat.{add-lt-add-of-le-of-lt, mul-div-cancel, mul-le-mul-left, mul-lt-mul-of-pos-right, pow-succ'}
+use native.Mathlib.Nat.{add-lt-add-of-le-of-lt, mul-div-cancel, pow-succ'}
 use native.Mathlib.Omega.{arith}
 use native.Mathlib.Decide.{decLe}
-use mathlib.Core.Bool.{Bool, true, false, cond, not, _&&_, _||_}
 use lib.Dec.{T, ltb, eqb, ltb→lt, lt→ltb, eqb→eq, not-T, T-not}
 use lib.Ieee.{Float, fin, binary32, down, lt, ofBits}
 use lib.Ieee.Bits.{is-true, is-false}
@@ -15,6 +15,7 @@ use lib.Ieee.Fits.{and-i, and-l, and-r, eq→eqb, down-pos}
 use Rattle.number.specs.Number.{zero32}
 use Rattle.number.specs.Range.{isFinite}
 use Rattle.number.specs.Root.{count, twiceMiddle, twiceRootSquared, reaches, last, rootOf}
+use Rattle.number.proofs.Numbers.{le-of-not-lt, square-mono}
 use Rattle.number.proofs.Units.{Is, size-is}
 use Rattle.number.proofs.Within.{or-l, or-r}
 use Rattle.number.proofs.Patterns.{val, val-lt, val-le, bits-are}
@@ -28,9 +29,6 @@ pub count-bits : (b : ℕ) → b < 2139095040 → count (ofBits binary32 b) ≡ 
 count-bits b h = count-is (ofBits binary32 b) (val b) (bits-are b h)
 
 -- ---- middles
-pub square-mono : (a b : ℕ) → a < b → a * a < b * b
-square-mono a b h = lt-of-le-of-lt (mul-le-mul-left a (le-of-lt h)) (mul-lt-mul-of-pos-right h (omega arith))
-
 pub middle-is : (b : ℕ) → b < 2139095040 → twiceMiddle b ≡ val (b - 1) + val b
 unfolding twiceMiddle
 middle-is b h =
@@ -82,9 +80,6 @@ module _ (x : Float) (b : ℕ) where
 
   pub missed : b < 2139095040 → T (not (reaches x b)) → n ≤ m
   missed h t = le-of-not-lt (λ (l : m < n). T-not (reaches x b) t (reach h l))
-    where
-      le-of-not-lt : {a b : ℕ} → (a < b → ⊥) → b ≤ a
-      le-of-not-lt {a} {b} f = omega arith
 
   pub missed-tie : b < 2139095040 → T (not (reaches x b)) → m ≡ n → b % 2 ≡ 0 → ⊥
   unfolding reaches
@@ -94,7 +89,7 @@ module _ (x : Float) (b : ℕ) where
       (or-r (ltb m n) tie (and-i (eqb m n) (eqb (b % 2) 0) (eq→eqb e) (eq→eqb z))))
 
 -- whatever lies below a pattern that is reached is reached
-pub reaches-down : (x : Float) (b c : ℕ) → b ≤ c → T (reaches x c) → T (reaches x b)
+reaches-down : (x : Float) (b c : ℕ) → b ≤ c → T (reaches x c) → T (reaches x b)
 reaches-down x b c h t = elim (eq-or-lt-of-le h) [
   | inl e ↦ subst (λ (d : ℕ). T (reaches x d)) (sym e) t
   | inr l ↦

@@ -1,14 +1,14 @@
 -- What the definition of the square root comes to, with no word of the search or of the code: of all f32 from zero up
--- none is nearer to the exact root than the one answered, on a tie its pattern is even, and it is the only one of which
--- this holds. Everything is a comparison of whole-number squares. Assumes nothing.
+-- none is nearer to the exact root than the one answered, on a tie its pattern is even, and it is the only one of
+-- which this holds. Everything is a comparison of whole-number squares. Assumes nothing.
 use mathlib.Core.Path.{_≡_, sym, ap, _∙_, subst}
 use mathlib.Core.Logic.{_⊎_, inl, inr}
+use mathlib.Core.Bool.{true, false, not, true≢false}
 use Prim.Native.Nat.{ℕ, _+_, _-_, _*_, _%_, _^_, _≤_, _<_}
 use native.Mathlib.Nat.{le-refl, le-trans, le-of-eq, lt-of-lt-of-le, lt-irrefl, lt-of-not-le, le-antisymm}
 use native.Mathlib.Nat.{eq-or-lt-of-le, add-le-add, add-sub-cancel, mul-le-mul}
 use native.Mathlib.Omega.{arith}
 use native.Mathlib.Decide.{decLe}
-use mathlib.Core.Bool.{true, false, not, true≢false}
 use lib.Dec.{T}
 use lib.Ieee.{Float, fin, binary32, lt, fits, ofBits, toBits}
 use lib.Ieee.Bits.{ofBits-fits, ofBits-toBits}
@@ -16,17 +16,17 @@ use lib.Ieee.Exact.{HasValue}
 use Rattle.number.specs.Number.{zero32}
 use Rattle.number.specs.Range.{isFinite}
 use Rattle.number.specs.Root.{count, twiceMiddle, twiceRootSquared, reaches, rootOf}
+use Rattle.number.proofs.Numbers.{square-back}
 use Rattle.number.proofs.Units.{L, plus, shift, fin-false}
-use Rattle.number.proofs.Patterns.{val, val-lt, val-le, val-back, bits-back, bits-plus}
+use Rattle.number.proofs.Patterns.{val, val-lt, val-le, val-back, val-le-back, bits-back, bits-plus}
 use Rattle.number.proofs.Neighbours.{bits-lt}
-use Rattle.number.proofs.SquareRoot.Nearest.{count-bits, square-mono, middle-is, reached, reached-tie, missed}
-use Rattle.number.proofs.SquareRoot.Nearest.{missed-tie}
+use Rattle.number.proofs.SquareRoot.Nearest.{count-bits, middle-is, reached, reached-tie, missed, missed-tie}
 use Rattle.number.proofs.SquareRoot.Bits as bits
 use Rattle.number.proofs.SquareRoot.Found.{Found, found, found-root}
 
--- With r and y for the sizes of two f32, b for the pattern of the first, and n for the square of twice the exact root:
--- the exact root is no nearer to y than to r. Their middle is not past the root on r's side, and where it is the root
--- itself, b is even.
+-- With r and y for the sizes of two f32, b for the pattern of the first, and n for the square of twice the exact
+-- root: the exact root is no nearer to y than to r. Their middle is not past the root on r's side, and where it is
+-- the root itself, b is even.
 pub record NotNearer (n r y b : ℕ) : Type 0 where
   pub below : y < r → (r + y) * (r + y) ≤ n
   pub above : r < y → n ≤ (r + y) * (r + y)
@@ -107,21 +107,8 @@ unfolding isFinite
 value-plus (fin false m e) u v = (tt, tt)
 value-plus (fin true m e) u v = absurd (true≢false (v .0))
 
--- ---- two steps back
 differ : (b c : ℕ) → b < c → val c ≡ val b → ⊥
 differ b c l e = lt-irrefl (val b) (lt-of-lt-of-le (val-lt b c l) (le-of-eq e))
-
-val-le-back : (b c : ℕ) → val b ≤ val c → b ≤ c
-val-le-back b c h = le-of-not-lt (λ (l : c < b). lt-irrefl (val c) (lt-of-lt-of-le (val-lt c b l) h))
-  where
-    le-of-not-lt : (c < b → ⊥) → b ≤ c
-    le-of-not-lt f = omega arith
-
-pub root-le : (a b : ℕ) → a * a ≤ b * b → a ≤ b
-root-le a b h = le-of-not-lt (λ (l : b < a). lt-irrefl (b * b) (lt-of-lt-of-le (square-mono b a l) h))
-  where
-    le-of-not-lt : (b < a → ⊥) → a ≤ b
-    le-of-not-lt f = omega arith
 
 -- of two neighbours one is odd
 even-once : (b c : ℕ) → b < c → c - 1 ≤ b → b % 2 ≡ 0 → c % 2 ≡ 0 → ⊥
@@ -197,7 +184,7 @@ module _ (x : Float) (f : T (fits binary32 x)) (a : T (lt zero32 x)) (h : T (isF
         let d : both * both ≡ n = le-antisymm (le-trans (mul-le-mul o o) t) g in
         let q = own .tie (differ c b l) d in
         let z = reached-tie x b at-root e in
-        let w : twiceMiddle b ≤ both = root-le (twiceMiddle b) both (le-of-eq (e ∙ sym d)) in
+        let w : twiceMiddle b ≤ both = square-back (twiceMiddle b) both (le-of-eq (e ∙ sym d)) in
         even-once c b l (val-le-back (b - 1) c (less (le-trans (le-of-eq (sym m)) w))) q z
       where
         sum : val c ≤ val (r .b - 1) → val c + val (r .b) ≤ val (r .b - 1) + val (r .b)
@@ -223,7 +210,7 @@ module _ (x : Float) (f : T (fits binary32 x)) (a : T (lt zero32 x)) (h : T (isF
         let d : both * both ≡ n = le-antisymm g (le-trans t (mul-le-mul o o)) in
         let q = own .tie (λ (e : val b ≡ val c). differ b c l (sym e)) d in
         let z = missed-tie x (b + 1) B past-root e in
-        let w : both ≤ twiceMiddle (b + 1) = root-le both (twiceMiddle (b + 1)) (le-of-eq (d ∙ sym e)) in
+        let w : both ≤ twiceMiddle (b + 1) = square-back both (twiceMiddle (b + 1)) (le-of-eq (d ∙ sym e)) in
         z (next-even b c l (val-le-back c (b + 1) (less (le-trans w (le-of-eq m)))) q)
       where
         sum : val (r .b + 1) ≤ val c → val (r .b) + val (r .b + 1) ≤ val c + val (r .b)

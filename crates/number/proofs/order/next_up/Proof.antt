@@ -34,7 +34,8 @@ add-result c = search needs
 float-from-bits-result-2 : tie.Need-float-from-bits-result-2
 float-from-bits-result-2 c =
     let s = c .before .before .before .before in
-    next-no-nan (s .args .x) (held s) (no-nan-ne (s .args .x) (c .before .before .before .if1 .left)) (c .before .before .if2 .left) (c .if4 .taken)
+    next-no-nan (s .args .x) (held s) (no-nan-ne (s .args .x) (c .before .before .before .if1 .left))
+    (c .before .before .if2 .left) (c .if4 .taken)
 
 sub-result : tie.Need-sub-result
 sub-result c = search needs
@@ -42,17 +43,20 @@ sub-result c = search needs
 float-from-bits-result-3 : tie.Need-float-from-bits-result-3
 float-from-bits-result-3 c =
     let s = c .before .before .before .before in
-    last-no-nan (s .args .x) (held s) (no-nan-ne (s .args .x) (c .before .before .before .if1 .left)) (c .before .if3 .left) (c .if4 .left)
+    last-no-nan (s .args .x) (held s) (no-nan-ne (s .args .x) (c .before .before .before .if1 .left))
+    (c .before .if3 .left) (c .if4 .left)
 
 returns-4 : tie.Need-returns-4
 returns-4 c =
     let s = c .before .before .before .before in
-    up-plus (s .args .x) (no-nan-ne (s .args .x) (c .before .before .before .if1 .left)) (c .before .before .if2 .left) (c .before .if3 .left) (c .if4 .taken)
+    up-plus (s .args .x) (no-nan-ne (s .args .x) (c .before .before .before .if1 .left))
+    (c .before .before .if2 .left) (c .before .if3 .left) (c .if4 .taken)
 
 returns-5 : tie.Need-returns-5
 returns-5 c =
     let s = c .before .before .before .before in
-    up-minus (s .args .x) (held s) (no-nan-ne (s .args .x) (c .before .before .before .if1 .left)) (c .before .if3 .left) (c .if4 .left)
+    up-minus (s .args .x) (held s) (no-nan-ne (s .args .x) (c .before .before .before .if1 .left))
+    (c .before .if3 .left) (c .if4 .left)
 
 pub next-up-spec : {M : Type 1} → statement M
 next-up-spec =

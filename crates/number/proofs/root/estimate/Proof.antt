@@ -1,7 +1,7 @@
 -- `number::root::estimate` meets its contract: nothing that it casts or takes the bits of is a NaN. Assumes nothing.
+use Prim.Native.Nat.{ℕ, _-_, _/_}
 use native.Mathlib.Omega.{arith}
 use borrow.Author.Needs.{needs}
-use Prim.Native.Nat.{ℕ, _-_, _/_}
 use Rattle.number.proofs.Patterns.{no-nan-bits}
 use Rattle.number.proofs.NoNan.{no-nan-between, widens}
 use Rattle.number.proofs.root.estimate.Statement.{statement}

@@ -1,4 +1,5 @@
--- `number::root::root` meets its contract: by the exponent's field, a subnormal argument raised first. Assumes nothing.
+-- `number::root::root` meets its contract: by the exponent's field, a subnormal argument raised first. Assumes
+-- nothing.
 use mathlib.Core.Path.{_≡_, sym, subst}
 use Prim.Native.Nat.{ℕ, _+_, _-_, _*_, _/_, _%_, _^_, _<_}
 use native.Mathlib.Omega.{arith}
@@ -105,7 +106,8 @@ returns c =
     let x = s .args .x in
     let d = bits s in
     let u = up (c .before) in
-    sym (root-is (d * 2 ^ lift d) (24 - lift d) (c .root-bits .result) (u .low) (u .high) (omega arith) (raised-made c) x
+    sym (root-is (d * 2 ^ lift d) (24 - lift d) (c .root-bits .result) (u .low) (u .high) (omega arith)
+    (raised-made c) x
     (scale-subnormal x (held s) (above (c .before .before)) (lift d) (u .within) (c .before .match .keys1))
     (above (c .before .before)) (finite-bits x (held s) (above (c .before .before)) (omega arith)))
 

@@ -81,7 +81,8 @@ returns-2 c =
     let w = c .before .before .before in
     let s = w .before .before in
     let r = w .whole-root in
-    down (s .args .p) (s .args .k) (s .pre .0) (s .pre .1) (r .result .root) (r .result .rest) (known w) (r .ensures .1)
+    down (s .args .p) (s .args .k) (s .pre .0) (s .pre .1) (r .result .root) (r .result .rest) (known w)
+    (r .ensures .1)
     (c .if1 .left) _ (omega arith)
 
 pub root-bits-spec : {M : Type 1} → statement M

@@ -1,5 +1,6 @@
--- `number::root::whole_root` meets its contract. The first loop brings the guess down to where its square is not above n
--- (measure: the guess); the second keeps n split into a square and a rest (measure: the rest). Assumes nothing.
+-- `number::root::whole_root` meets its contract. The first loop brings the guess down to where its square is not
+-- above n (measure: the guess); the second keeps n split into a square and a rest (measure: the rest). Assumes
+-- nothing.
 use mathlib.Core.Path.{_≡_}
 use Prim.Native.Nat.{_+_, _*_, _^_, _<_}
 use native.Mathlib.Omega.{arith}
@@ -58,7 +59,8 @@ loop2-less c = omega arith
 loop2-again : tie.Need-loop2-again Inv-loop μ-loop Inv-loop2 μ-loop2
 loop2-again c =
     let at = c .before in
-    turn (at .before .before .before .args .n) (at .loop2 .root) (at .loop2 .rest) (at .before .before .before .pre .0)
+    turn (at .before .before .before .args .n) (at .loop2 .root) (at .loop2 .rest)
+    (at .before .before .before .pre .0)
     (at .loop2 .inv .0) (at .loop2 .inv .1) (c .loop2-test .taken)
 
 returns : tie.Need-returns Inv-loop μ-loop Inv-loop2 μ-loop2
