@@ -7,3 +7,4 @@ pub mod Lower
 pub mod Cubic
 pub mod Admission
 pub mod Called
+pub mod Promises

@@ -7,7 +7,7 @@ use Rattle.number.specs.Number.{_⊕_, _⊖_, _⊗_, _⊘_, zero32, size, clamp
 use Rattle.polynomial_root.specs.Quadratic.{two32}
 use Rattle.polynomial_root.specs.declared.newton.Cubic.{Cubic}
 use Rattle.polynomial_root.specs.declared.newton.Found.{Found}
-use Rattle.polynomial_root.specs.declared.newton.Found.the-variants.{Root, Nothing, Refused}
+use Rattle.polynomial_root.specs.declared.newton.Found.the-variants.{Root, Refused}
 
 abbrev pub three32 : Float
 three32 = ofBits binary32 0x4040_0000

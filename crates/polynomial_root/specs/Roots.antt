@@ -2,7 +2,7 @@
 -- zero; or a refusal number with no root. Definitions only.
 use Prim.Native.Nat.{ℕ, _+_}
 use mathlib.Core.Bool.{cond}
-use mathlib.Core.List.{List, [], _∷_}
+use mathlib.Core.List.{[], _∷_}
 use lib.Dec.{ltb}
 use lib.ListN.{set}
 use lib.Ieee.{Float, eq}

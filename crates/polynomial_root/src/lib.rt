@@ -10,6 +10,7 @@ pub mod span;
 
 ghost use mathlib.Core.Path.{_≡_};
 ghost use Rattle.polynomial_root.specs.Newton.{cubicOf};
+ghost use Rattle.polynomial_root.specs.Promises.{Tidy, NoNan, NoneOrTwo, InRange, reach};
 ghost use Rattle.polynomial_root.specs.Called.{quadraticRoot, cubicRootsInRange};
 use admission::allowed_cubic;
 use admission::allowed_quadratic;
@@ -21,7 +22,10 @@ use newton::Cubic;
 
 // The roots of c0 + c1 x + c2 x²: none or two, the smaller first. Refusals 1, 2, 9.
 pub fn quadratic_root(c0: f32, c1: f32, c2: f32) -> Roots
-    ensures { λ r. ⌜ r ≡ quadraticRoot c0 c1 c2 ⌝ }
+    ensures answer { λ r. ⌜ r ≡ quadraticRoot c0 c1 c2 ⌝ }
+    ensures tidy { λ r. ⌜ Tidy r ⌝ }
+    ensures numbers { λ r. ⌜ NoNan r ⌝ }
+    ensures two { λ r. ⌜ NoneOrTwo r ⌝ }
 {
     if !finite_quadratic(c0, c1, c2) {
         return refused(1);
@@ -44,7 +48,9 @@ pub fn cubic_roots_in_range_zero_to_t(
     t: f32,
     epsilon: f32,
 ) -> Roots
-    ensures { λ r. ⌜ r ≡ cubicRootsInRange (cubicOf c0 c1 c2 c3) t epsilon ⌝ }
+    ensures answer { λ r. ⌜ r ≡ cubicRootsInRange (cubicOf c0 c1 c2 c3) t epsilon ⌝ }
+    ensures tidy { λ r. ⌜ Tidy r ⌝ }
+    ensures range { λ r. ⌜ InRange (reach (cubicOf c0 c1 c2 c3) t) r ⌝ }
 {
     let p = Cubic { c0, c1, c2, c3 };
     if !finite_cubic(p, t, epsilon) {

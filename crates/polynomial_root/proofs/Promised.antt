@@ -1,0 +1,185 @@
+-- What the two root finders promise of every answer: it is tidy; a quadratic's roots are none or two numbers, the
+-- smaller first; a cubic's lie in 0..t, a linear one's in 0..1. And no root in the range is dropped, a repeated one
+-- neither. Assumes nothing.
+use Prim.Native.Nat.{ℕ}
+use native.Mathlib.Omega.{arith}
+use mathlib.Core.Path.{_≡_, refl}
+use mathlib.Core.Logic.{inl, inr}
+use mathlib.Core.Bool.{Bool, true, false, not, cond, _&&_}
+use mathlib.Core.List.{[], _∷_}
+use lib.Dec.{T, lit≤}
+use lib.Ieee.{Float, binary32, lt, eq, isNan, fits, ofBits}
+use lib.Ieee.Fits.{add-fits}
+use Rattle.number.specs.Number.{_⊖_, _⊗_, _⊘_, zero32, one32}
+use Rattle.number.specs.Range.{between}
+use Rattle.number.proofs.Within.{Within, within-more}
+use Rattle.polynomial_root.specs.Roots.{none, refused, written, push}
+use Rattle.polynomial_root.specs.Quadratic.{two32, solved}
+use Rattle.polynomial_root.specs.Newton.{three32, valueAt}
+use Rattle.polynomial_root.specs.Spans.{bothZero}
+use Rattle.polynomial_root.specs.Lower.{
+  vanishes,
+  constantRoots,
+  opposite,
+  linearRoots,
+  keep,
+  keptRoots,
+  lowerRoots,
+}
+use Rattle.polynomial_root.specs.Cubic.{spanRoots, cubicRoots}
+use Rattle.polynomial_root.specs.Admission.{finiteQuadratic, allowedQuadratic, finiteCubic, allowedCubic}
+use Rattle.polynomial_root.specs.Called.{solvedRoots, quadraticRoot, cubicRootsInRange}
+use Rattle.polynomial_root.specs.Promises.{NoneOrTwo, reach}
+use Rattle.polynomial_root.specs.declared.answer.Roots.{Roots}
+use Rattle.polynomial_root.specs.declared.newton.Cubic.{Cubic}
+use Rattle.polynomial_root.specs.declared.quadratic.Solved.{Solved}
+use Rattle.polynomial_root.specs.declared.quadratic.Solved.the-variants.{Neither, Both}
+use Rattle.polynomial_root.proofs.Orders.{test-true, zero-in-range, written-in-range}
+use Rattle.polynomial_root.proofs.Defined.{value-within}
+use Rattle.polynomial_root.proofs.Places.{Holds, refused-holds, push-holds}
+use Rattle.polynomial_root.proofs.Gathered.{Solves, solved-holds, kept-holds}
+use Rattle.polynomial_root.proofs.Spans.{Allowed, spans-in-range}
+use Rattle.polynomial_root.proofs.Admitted.{allowed-quadratic, allowed-cubic, admitted-keeps}
+use Rattle.polynomial_root.proofs.Linear.{linear-in-range}
+use Rattle.polynomial_root.proofs.Ordered.{InOrder, solved-ordered}
+use Rattle.polynomial_root.proofs.Written.{written-number, written-order}
+
+one-above : T (lt zero32 one32)
+unfolding lt ofBits
+one-above = tt
+
+-- ---- a cubic's roots
+abbrev In : Float → Float → Type 0
+In end r = T (between zero32 end r)
+
+module _ (p : Cubic) (t epsilon : Float) (h : Allowed p t) where
+  constant-holds : Holds (In t) (constantRoots (p .c0))
+  unfolding constantRoots
+  constant-holds = go (vanishes (p .c0))
+    where
+      go : (b : Bool) → Holds (In t) (cond b (push none zero32) none)
+      go true =
+          push-holds (In t) none zero32 refl (refused-holds (In t) 0)
+          (written-in-range t (h .above) zero32 (zero-in-range t (h .above)))
+      go false = refused-holds (In t) 0
+
+  linear-holds : T (fits binary32 (p .c0)) → Holds (In one32) (linearRoots (p .c0) (valueAt p t))
+  unfolding linearRoots
+  linear-holds f = go (opposite a b) (bothZero a b) refl refl
+    where
+      a : Float
+      a = p .c0
+
+      b : Float
+      b = valueAt p t
+
+      go : (o z : Bool) → opposite a b ≡ o → bothZero a b ≡ z
+          → Holds (In one32) (cond o (cond z (refused 6) (push none (a ⊘ (a ⊖ b)))) none)
+      go true true i j = refused-holds (In one32) 6
+      go true false i j =
+          push-holds (In one32) none (a ⊘ (a ⊖ b)) refl (refused-holds (In one32) 0)
+          (written-in-range one32 one-above (a ⊘ (a ⊖ b))
+          (linear-in-range a b f (add-fits binary32 _ _) (h .w0)
+          (value-within p t (h .w0) (h .w1) (h .w2) (h .w3) (h .small)) i j))
+      go false z i j = refused-holds (In one32) 0
+
+  lower-holds : T (fits binary32 (p .c0))
+      → Holds (In (cond (vanishes (p .c2) && not (vanishes (p .c1))) one32 t)) (lowerRoots p t)
+  unfolding lowerRoots
+  lower-holds f = go (vanishes (p .c2)) (vanishes (p .c1))
+    where
+      roots : Solved
+      roots = solved (p .c0) (p .c1) (p .c2)
+
+      go : (y z : Bool)
+          → Holds (In (cond (y && not z) one32 t))
+          (cond y (cond z (constantRoots (p .c0)) (linearRoots (p .c0) (valueAt p t))) (keptRoots t roots))
+      go true true = constant-holds
+      go true false = linear-holds f
+      go false z = kept-holds (In t) t (λ r i. written-in-range t (h .above) r (test-true i)) roots
+
+  cubic-holds : T (fits binary32 (p .c0)) → Holds (In (reach p t)) (cubicRoots p t epsilon)
+  unfolding cubicRoots
+  cubic-holds f = go (vanishes (p .c3))
+    where
+      slope : Solved
+      slope = solved (p .c1) (two32 ⊗ p .c2) (three32 ⊗ p .c3)
+
+      go : (x : Bool)
+          → Holds (In (cond (x && vanishes (p .c2) && not (vanishes (p .c1))) one32 t))
+          (cond x (lowerRoots p t) (spanRoots p t epsilon slope))
+      go true = lower-holds f
+      go false = spans-in-range p t epsilon h slope
+
+pub cubic-promises : (p : Cubic) (t epsilon : Float) → T (fits binary32 (p .c0))
+    → Holds (In (reach p t)) (cubicRootsInRange p t epsilon)
+unfolding cubicRootsInRange
+cubic-promises p t epsilon f =
+    admitted-keeps (Holds (In (reach p t))) (finiteCubic p t epsilon) (allowedCubic p t epsilon)
+    (cubicRoots p t epsilon) (refused-holds (In (reach p t)))
+    (λ a. cubic-holds p t epsilon (allowed-cubic p t epsilon a) f)
+
+-- ---- a quadratic's roots
+abbrev Number : Float → Type 0
+Number r = T (not (isNan r))
+
+pub record Quadratic (a : Roots) : Type 0 where
+  pub numbers : Holds Number a
+  pub two : NoneOrTwo a
+
+none-two : (n : ℕ) → NoneOrTwo (refused n)
+none-two n = record { number = inl refl; order = λ e. absurd (never e) }
+  where
+    never : _≡_ {A = ℕ} 0 2 → ⊥
+    never e = omega arith
+
+refused-quadratic : (n : ℕ) → Quadratic (refused n)
+refused-quadratic n = record { numbers = refused-holds Number n; two = none-two n }
+
+solved-quadratic : (s : Solved) → InOrder s → Quadratic (solvedRoots s)
+solved-quadratic s h = record { numbers = solved-holds Number s (solves s h); two = two s h }
+  where
+    solves : (s : Solved) → InOrder s → Solves Number s
+    solves Neither h = tt
+    solves (Both a b) h = (written-number a (h .first), written-number b (h .second))
+
+    two : (s : Solved) → InOrder s → NoneOrTwo (solvedRoots s)
+    two Neither h = unfold solvedRoots in none-two 0
+    two (Both a b) h =
+        unfold solvedRoots push in record { number = inr refl; order = λ e. written-order a b (h .order) }
+
+pub quadratic-promises : (c0 c1 c2 : Float) → T (fits binary32 c2) → Quadratic (quadraticRoot c0 c1 c2)
+unfolding quadraticRoot
+quadratic-promises c0 c1 c2 f =
+    admitted-keeps Quadratic (finiteQuadratic c0 c1 c2) (allowedQuadratic c0 c1 c2) inner refused-quadratic
+    (λ a. go (eq c2 zero32) refl (allowed-quadratic c0 c1 c2 a))
+  where
+    inner : Roots
+    inner = cond (eq c2 zero32) (refused 9) (solvedRoots (solved c0 c1 c2))
+
+    go : (b : Bool) → eq c2 zero32 ≡ b → Within 20 c0 × Within 20 c1 × Within 20 c2
+        → Quadratic (cond b (refused 9) (solvedRoots (solved c0 c1 c2)))
+    go true n w = refused-quadratic 9
+    go false n w =
+        solved-quadratic (solved c0 c1 c2)
+        (solved-ordered c0 c1 c2 f (within-more 20 22 c0 (lit≤ tt) (w .0)) (within-more 20 22 c1 (lit≤ tt) (w .1))
+        (within-more 20 22 c2 (lit≤ tt) (w .2)) n)
+
+-- ---- no root is dropped, though the two be equal
+abbrev pub two-roots : Float → Float → Roots
+two-roots a b = record { refusal = 0; count = 2; roots = written a ∷ written b ∷ zero32 ∷ [] }
+
+pub solved-kept : (a b : Float) → solvedRoots (Both a b) ≡ two-roots a b
+unfolding solvedRoots push
+solved-kept a b = refl
+
+pub both-kept : (t a b : Float) → between zero32 t a ≡ true → between zero32 t b ≡ true
+    → keptRoots t (Both a b) ≡ two-roots a b
+unfolding keptRoots keep push
+both-kept t a b p q = rw (p, q)
+
+pub cubic-both-kept : (p : Cubic) (t epsilon a b : Float) → vanishes (p .c3) ≡ true → vanishes (p .c2) ≡ false
+    → solved (p .c0) (p .c1) (p .c2) ≡ Both a b → between zero32 t a ≡ true → between zero32 t b ≡ true
+    → cubicRoots p t epsilon ≡ two-roots a b
+unfolding cubicRoots lowerRoots
+cubic-both-kept p t epsilon a b v3 v2 s i j = rw (v3, v2, s) (both-kept t a b i j)
