@@ -15,6 +15,7 @@ use Rattle.geometry.specs.Vec3.{at, col}
 use Rattle.pair.specs.declared.record.Limits.{Limits}
 use Rattle.pair.specs.Admission.{refusal, ofThree, ofTwelve, finitePoints, limitPoints, isSplit, rangedLimits}
 use Rattle.pair.specs.Admission.{finiteWalk, rangedWalk, walkRefusal}
+use Rattle.pair.specs.Admission.{pointsRefusal, splitRefusal, factorRefusal, timeRefusal, ratioRefusal}
 use Rattle.pair.proofs.Ranges.{limit-within}
 
 -- ---- the three numbers of a verdict
@@ -48,7 +49,7 @@ quadruple a b c d h =
     (abc .0, abc .1, abc .2, and-r (a && b && c) d h)
 
 module _ (test : Float → Bool) where
-  three-each : (v : List Float) → T (ofThree test v) → (j : ℕ) → j < 3 → T (test (at v j))
+  pub three-each : (v : List Float) → T (ofThree test v) → (j : ℕ) → j < 3 → T (test (at v j))
   three-each v h zero l = triple (test (at v 0)) (test (at v 1)) (test (at v 2)) h .0
   three-each v h (suc zero) l = triple (test (at v 0)) (test (at v 1)) (test (at v 2)) h .1
   three-each v h (suc (suc zero)) l = triple (test (at v 0)) (test (at v 1)) (test (at v 2)) h .2
@@ -122,3 +123,37 @@ module _ (x dx : List (List Float)) (split : ℕ) (l : Limits) where
   pub walk-second : (walkRefusal x dx split l ≡ 2) ↔ (T (finiteWalk x dx l) × T (not (rangedWalk x dx split l)))
   unfolding walkRefusal
   walk-second = refusal-second (finiteWalk x dx l) (rangedWalk x dx split l)
+
+-- ---- the calls on points
+module _ (x : List (List Float)) where
+  pub points-admits : pointsRefusal x ≡ 0 → T (limitPoints x)
+  unfolding pointsRefusal
+  points-admits e = refusal-none (finitePoints x) (limitPoints x) e .1
+
+  pub split-admits : (split : ℕ) → splitRefusal x split ≡ 0 → T (limitPoints x) × T (isSplit split)
+  unfolding splitRefusal
+  split-admits split e =
+      let r = refusal-none (finitePoints x) (limitPoints x && isSplit split) e .1 in
+      (and-l (limitPoints x) (isSplit split) r, and-r (limitPoints x) (isSplit split) r)
+
+  pub factor-admits : (s : Float) → factorRefusal x s ≡ 0 → T (limitPoints x) × T (zeroToLimit s)
+  unfolding factorRefusal
+  factor-admits s e =
+      let r = refusal-none (finitePoints x && isFinite s) (limitPoints x && zeroToLimit s) e .1 in
+      (and-l (limitPoints x) (zeroToLimit s) r, and-r (limitPoints x) (zeroToLimit s) r)
+
+  pub time-admits : (dx : List (List Float)) (t : Float) → timeRefusal x dx t ≡ 0
+      → T (limitPoints x) × T (limitPoints dx) × T (zeroToOne t)
+  unfolding timeRefusal
+  time-admits dx t e =
+      let f = finitePoints x && finitePoints dx && isFinite t in
+      let r = limitPoints x && limitPoints dx && zeroToOne t in
+      triple (limitPoints x) (limitPoints dx) (zeroToOne t) (refusal-none f r e .1)
+
+pub ratio-admits : (p q : List Float) (s : Float) → ratioRefusal p q s ≡ 0
+    → T (ofThree inLimit p) × T (ofThree inLimit q) × T (zeroToOne s)
+unfolding ratioRefusal
+ratio-admits p q s e =
+    let f = ofThree isFinite p && ofThree isFinite q && isFinite s in
+    let r = ofThree inLimit p && ofThree inLimit q && zeroToOne s in
+    triple (ofThree inLimit p) (ofThree inLimit q) (zeroToOne s) (refusal-none f r e .1)

@@ -1,6 +1,6 @@
 -- A fold over the numbers from a up to n, as a loop that counts does it: one turn and the rest, or none left.
 -- Assumes nothing.
-use Prim.Native.Nat.{ℕ, suc, _+_, _-_, _≤_, _<_}
+use Prim.Native.Nat.{ℕ, zero, suc, _+_, _-_, _≤_, _<_}
 use native.Mathlib.Omega.{arith}
 use native.Mathlib.Numerals.{add-one}
 use mathlib.Core.Path.{_≡_, refl, sym}
@@ -21,3 +21,12 @@ module _ {B : Type 0} (f : B → ℕ → B) (a n : ℕ) where
   pub fold-done : (b : B) → n ≤ a → b ≡ foldl f b (count a (n - a))
   unfolding count
   fold-done b h = rw (none a n h)
+
+-- what each turn keeps, the whole fold keeps
+pub fold-keeps : {B : Type 0} (P : B → Type 0) (f : B → ℕ → B) (a n : ℕ)
+    → ((b : B) (k : ℕ) → a ≤ k → k < a + n → P b → P (f b k)) → (b : B) → P b → P (foldl f b (count a n))
+unfolding count
+fold-keeps P f a zero h b p = p
+fold-keeps P f a (suc n) h b p =
+    fold-keeps P f (suc a) n (λ b k l u. h b k (omega arith) (omega arith)) (f b a)
+    (h b a (omega arith) (omega arith) p)

@@ -16,8 +16,8 @@ use Rattle.number.specs.Range.{isFinite}
 use Rattle.number.proofs.Units.{fit}
 use Rattle.number.proofs.Within.{Within}
 use Rattle.number.proofs.Signs.{eighth-within}
-use Rattle.pair.specs.declared.scaling.Factors.{Factors}
-use Rattle.pair.specs.Scaling.{eight32, ending, eighths, factorsOf}
+use Rattle.pair.specs.declared.factors.Factors.{Factors}
+use Rattle.pair.specs.Factors.{eight32, ending, eighths, factorsOf}
 
 -- n factors of 8 were taken out of a finite number, and f is left
 pub record Left (n : ℕ) (f : Float) : Type 0 where

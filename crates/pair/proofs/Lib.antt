@@ -1,7 +1,11 @@
 -- Laws that other crates cite, and helpers of this one. Assumes nothing.
 pub mod Ranges
 pub mod Admitted
+pub mod Norms
+pub mod StayFinite
 pub mod Eighths
+pub mod Exact
+pub mod Scalings
 mod Taken
 mod Counting
 mod Into

@@ -7,10 +7,11 @@ use mathlib.Core.Bool.{Bool, true, false}
 use lib.Ieee.{Float}
 use borrow.Author.Tests.{eq-eqb, ne-eqb}
 use Rattle.pair.specs.declared.record.Pair.{Pair}
-use Rattle.pair.specs.declared.scaling.Factors.{Factors}
+use Rattle.pair.specs.declared.factors.Factors.{Factors}
 use Rattle.pair.specs.declared.scaling.Outcome.{Outcome}
 use Rattle.pair.specs.declared.scaling.Scaling.the-variants.{Factor, Refused}
-use Rattle.pair.specs.Scaling.{firstFactor, usable, factorsOf, factorsFor, scaledWith, scaledPair, finitePair}
+use Rattle.pair.specs.Factors.{usable, factorsOf}
+use Rattle.pair.specs.Scaling.{firstFactor, factorsFor, scaledWith, scaledPair, finitePair}
 use Rattle.pair.specs.Scaling.{pairRefusal, scalingRefusal, scalingOf, leaves, refusedBy, outcome}
 
 module _ (p : Pair) (t : Float) where

@@ -3,4 +3,5 @@ pub mod Count
 pub mod Admission
 pub mod Points
 pub mod Norm
+pub mod Factors
 pub mod Scaling

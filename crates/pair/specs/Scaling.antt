@@ -1,22 +1,18 @@
 -- Scaling a pair (docs/01-scope.md, "Scaling a pair", "Refusal numbers"; ccd3.rs:
 -- `normalize_centerized_configuration`). Definitions only.
-use Prim.Native.Nat.{ℕ, zero, suc}
-use mathlib.Core.Bool.{Bool, true, false, cond, _&&_}
-use mathlib.Core.List.{List, foldl}
+use Prim.Native.Nat.{ℕ}
+use mathlib.Core.Bool.{Bool, false, cond, _&&_}
 use lib.Dec.{eqb}
-use lib.Ieee.{Float, binary32, lt, ofBits}
-use Rattle.number.specs.Number.{_⊕_, _⊗_, _⊘_, zero32, one32, size, larger}
-use Rattle.number.specs.Range.{isFinite}
-use Rattle.geometry.specs.Vec3.{at, col}
-use Rattle.geometry.specs.Columns.{scaled}
+use lib.Ieee.{Float, binary32, ofBits}
+use Rattle.number.specs.Number.{_⊘_, zero32}
 use Rattle.pair.specs.declared.record.Pair.{Pair}
-use Rattle.pair.specs.declared.scaling.Factors.{Factors}
+use Rattle.pair.specs.declared.factors.Factors.{Factors}
 use Rattle.pair.specs.declared.scaling.Outcome.{Outcome}
 use Rattle.pair.specs.declared.scaling.Scaling.{Scaling}
 use Rattle.pair.specs.declared.scaling.Scaling.the-variants.{Factor, Refused}
-use Rattle.pair.specs.Count.{count}
 use Rattle.pair.specs.Admission.{finitePoints, timeRefusal}
 use Rattle.pair.specs.Points.{admitted}
+use Rattle.pair.specs.Factors.{maxEntry, usable, factorsOf, scaledBy}
 
 -- an answer's refusal number, 0 for none, and its factor, zero where refused
 unfoldable pub refusalOf : Scaling → ℕ
@@ -27,53 +23,12 @@ unfoldable pub factorOf : Scaling → Float
 factorOf (Factor f) = f
 factorOf (Refused n) = zero32
 
--- the largest so far, after |x| and |x + t dx| at one place, and at the three places of a column
-unfoldable pub reach : Float → Float → Float → Float → Float
-reach t most x dx = larger (larger most (size x)) (size (x ⊕ t ⊗ dx))
-
-abbrev pub reachColumn : Float → Float → List Float → List Float → Float
-reachColumn t most v d = reach t (reach t (reach t most (at v 0) (at d 0)) (at v 1) (at d 1)) (at v 2) (at d 2)
-
--- max_entry: the largest over the twelve places
-unfoldable pub maxEntry : List (List Float) → List (List Float) → Float → Float
-maxEntry x dx t =
-    foldl (λ (most : Float) (i : ℕ). reachColumn t most (col x i) (col dx i)) zero32 (count 0 4)
-
-abbrev pub eight32 : Float
-eight32 = ofBits binary32 0x4100_0000
-
 -- f = f32(0.99) / max_entry
 unfoldable pub firstFactor : Pair → Float → Float
 firstFactor p t = ofBits binary32 0x3f7d_70a4 ⊘ maxEntry (p .x) (p .dx) t
 
-unfoldable pub usable : Float → Bool
-usable f = isFinite f && lt zero32 f
-
--- after n factors of 8, whose product is given, the last factor is f
-abbrev pub ending : ℕ → Float → Float → Factors
-ending n f product = record { eights = n; last = f; product = product ⊗ f }
-
--- while f > 8, a factor of 8 more and f divided by 8: at most k times. 42 times are enough for any finite f
-unfoldable pub eighths : ℕ → ℕ → Float → Float → Factors
-eighths zero n f product = ending n f product
-eighths (suc k) n f product = elim (lt eight32 f) [
-  | true ↦ eighths k (suc n) (f ⊘ eight32) (product ⊗ eight32)
-  | false ↦ ending n f product
-]
-
-unfoldable pub factorsOf : Float → Factors
-factorsOf f = eighths 42 0 f one32
-
 abbrev pub factorsFor : Pair → Float → Factors
 factorsFor p t = factorsOf (firstFactor p t)
-
--- every number times 8, n times over
-unfoldable pub eightfold : ℕ → List (List Float) → List (List Float)
-eightfold zero x = x
-eightfold (suc n) x = eightfold n (scaled x eight32)
-
-unfoldable pub scaledBy : Factors → List (List Float) → List (List Float)
-scaledBy by x = scaled (eightfold (by .eights) x) (by .last)
 
 unfoldable pub scaledWith : Factors → Pair → Pair
 scaledWith by p = record { x = scaledBy by (p .x); dx = scaledBy by (p .dx) }

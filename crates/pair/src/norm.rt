@@ -1,6 +1,11 @@
 // The largest distance between the two sides of a split (docs/01-scope.md, "Square root and norm"; ccd3.rs:
 // `max_relative_norm`).
 ghost use mathlib.Core.Path.{_≡_};
+ghost use lib.Dec.{T};
+ghost use lib.Ieee.{le};
+ghost use Rattle.number.specs.Number.{zero32};
+ghost use Rattle.number.specs.Range.{isFinite};
+ghost use Rattle.pair.specs.Admission.{splitRefusal};
 ghost use Rattle.pair.specs.Norm as Def;
 use crate::admission;
 use geometry::vec3;
@@ -38,7 +43,9 @@ pub fn norm(x: [[f32; 3]; 4], split: usize) -> f32
 
 // The public call.
 pub fn max_relative_norm(x: [[f32; 3]; 4], split: usize) -> Normed
-    ensures { λ r. ⌜ r ≡ Def.normed x split ⌝ }
+    ensures answer { λ r. ⌜ r ≡ Def.normed x split ⌝ }
+    ensures refusal { λ r. ⌜ Def.refusalOf r ≡ splitRefusal x split ⌝ }
+    ensures norm { λ r. ⌜ T (isFinite (Def.valueOf r)) × T (le zero32 (Def.valueOf r)) ⌝ }
 {
     let refusal = admission::admit_split(x, split);
     if refusal == 0 {

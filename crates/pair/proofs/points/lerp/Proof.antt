@@ -1,15 +1,18 @@
 -- `pair::points::lerp` meets its contract, by either way through its test. Assumes nothing.
 use Prim.Native.Nat.{ℕ}
-use mathlib.Core.Path.{_≡_, _∙_}
+use mathlib.Core.Path.{_≡_, sym, _∙_, subst}
 use mathlib.Core.List.{List}
+use lib.Dec.{T}
 use lib.Ieee.{Float}
 use borrow.Author.Needs.{needs}
 use Rattle.number.specs.Number.{zero32}
+use Rattle.number.specs.Range.{isFinite}
 use Rattle.geometry.specs.Vec3.{vec}
 use Rattle.geometry.specs.Edge3.{lerpOf}
 use Rattle.pair.specs.declared.points.Placed.{Placed}
-use Rattle.pair.specs.Admission.{ratioRefusal}
+use Rattle.pair.specs.Admission.{ofThree, ratioRefusal}
 use Rattle.pair.specs.Points.{admitted, placed}
+use Rattle.pair.proofs.StayFinite.{place-finite}
 use Rattle.pair.proofs.Taken.{taken, refused}
 use Rattle.pair.proofs.points.lerp.Statement.{statement}
 use Rattle.pair.proofs.points.lerp.Tie as tie
@@ -19,9 +22,13 @@ module _ (p q : List Float) (s : Float) (n : ℕ) (e : n ≡ ratioRefusal p q s)
   Zeros = vec zero32 zero32 zero32
 
   made : (v : List Float) → v ≡ admitted (ratioRefusal p q s) (lerpOf p q s) Zeros
-      → _≡_ {A = Placed} (record { refusal = n; point = v }) (placed p q s)
+      → let r : Placed = record { refusal = n; point = v } in
+      (r ≡ placed p q s) × (n ≡ 0 → T (ofThree isFinite v))
   unfolding placed
-  made v h = λ i. record { refusal = e i; point = h i }
+  made v h = (
+    λ i. record { refusal = e i; point = h i },
+    λ z. subst (λ (v : List Float). T (ofThree isFinite v)) (sym h) (place-finite p q s (sym e ∙ z)),
+  )
 
 admit-ratio-requires : tie.Need-admit-ratio-requires
 admit-ratio-requires c κs = search needs

@@ -51,7 +51,9 @@ use Rattle.pair.specs.declared.record.Pair.{Pair}
 use Rattle.pair.specs.declared.scaling.Scaling.{Scaling}
 use Rattle.pair.specs.declared.scaling.Outcome.{Outcome}
 use Rattle.pair.specs.Scaling.{scalingOf, leaves, outcome}
+use Rattle.pair.proofs.Scalings.{finite-there}
 use Rattle.pair.proofs.Lent.{pairVal, answerVal, outcomeVal, IsPair, IsAnswer, part, owes, answered, stored}
+use Rattle.pair.proofs.Scalings.{finite-there}
 use Rattle.pair.proofs.Lent.{left}
 use Rattle.pair.proofs.record.Pair as T
 use Rattle.pair.proofs.record.Pair.Laws as T′
@@ -106,7 +108,7 @@ module _
             suffices ! _
             (ends-at 𝓤 H A f.ended stayed (f.clauses 𝓤 H A at-mem run) W (((κ, tt), (q, tt), tt, x, at), tt)
             (answerVal a) a (h′, (tt, tt)) (tt, (tt, tt))) $
-            says ! (e, e′) $ nothing ! $ move ! (3 ∷ 0 ∷ []) $ join ! $ frame ! $
+            says ! (e, e′, finite-there h t a h′ e e′) $ nothing ! $ move ! (3 ∷ 0 ∷ []) $ join ! $ frame ! $
             feqI ! (List Val) (vptr b o ∷ []) (vptr b o ∷ []) refl $ fjoin3 ! $ nothing ! $
             owned ! f32 (Is f32) (float-makes 𝓤 H A W binary32) t _ (refl, ok) $ fjoin ! $ move ! (1 ∷ 0 ∷ []) $
             fjoin ! $

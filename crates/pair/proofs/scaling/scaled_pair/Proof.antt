@@ -9,7 +9,7 @@ use borrow.Author.Needs.{needs}
 use borrow.Author.Tests.{not-true, not-false}
 use Rattle.number.specs.Number.{zero32}
 use Rattle.number.specs.Range.{isFinite}
-use Rattle.pair.specs.Scaling.{usable}
+use Rattle.pair.specs.Factors.{usable}
 use Rattle.pair.proofs.Outcomes.{by-admission, by-use, by-size, by-none}
 use Rattle.pair.proofs.scaling.scaled_pair.Statement.{statement}
 use Rattle.pair.proofs.scaling.scaled_pair.Tie as tie

@@ -4,8 +4,9 @@ use mathlib.Core.List.{List}
 use lib.Ieee.{Float}
 use borrow.Author.Needs.{needs}
 use Rattle.pair.specs.declared.record.Pair.{Pair}
-use Rattle.pair.specs.declared.scaling.Factors.{Factors}
-use Rattle.pair.specs.Scaling.{scaledBy, scaledWith}
+use Rattle.pair.specs.declared.factors.Factors.{Factors}
+use Rattle.pair.specs.Factors.{scaledBy}
+use Rattle.pair.specs.Scaling.{scaledWith}
 use Rattle.pair.proofs.scaling.scaled_with.Statement.{statement}
 use Rattle.pair.proofs.scaling.scaled_with.Tie as tie
 

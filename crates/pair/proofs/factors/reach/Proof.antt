@@ -1,8 +1,8 @@
--- `pair::scaling::reach` meets its contract. Assumes nothing.
+-- `pair::factors::reach` meets its contract. Assumes nothing.
 use borrow.Author.Needs.{needs}
-use Rattle.pair.specs.Scaling.{reach}
-use Rattle.pair.proofs.scaling.reach.Statement.{statement}
-use Rattle.pair.proofs.scaling.reach.Tie as tie
+use Rattle.pair.specs.Factors.{reach}
+use Rattle.pair.proofs.factors.reach.Statement.{statement}
+use Rattle.pair.proofs.factors.reach.Tie as tie
 
 size-requires : tie.Need-size-requires
 size-requires c κs = search needs

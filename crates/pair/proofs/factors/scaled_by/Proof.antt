@@ -1,4 +1,4 @@
--- `pair::scaling::scaled_by` meets its contract: the factors of 8 still to come make of the points so far what all of
+-- `pair::factors::scaled_by` meets its contract: the factors of 8 still to come make of the points so far what all of
 -- them make of the points given. Assumes nothing.
 use Prim.Native.Nat.{ℕ, suc, _+_, _-_, _≤_, _<_}
 use native.Mathlib.Omega.{arith}
@@ -8,9 +8,9 @@ use mathlib.Core.List.{List}
 use lib.Ieee.{Float}
 use borrow.Author.Needs.{needs}
 use Rattle.geometry.specs.Columns.{scaled}
-use Rattle.pair.specs.Scaling.{eightfold, scaledBy}
-use Rattle.pair.proofs.scaling.scaled_by.Statement.{statement}
-use Rattle.pair.proofs.scaling.scaled_by.Tie as tie
+use Rattle.pair.specs.Factors.{eightfold, scaledBy}
+use Rattle.pair.proofs.factors.scaled_by.Statement.{statement}
+use Rattle.pair.proofs.factors.scaled_by.Tie as tie
 
 abbrev Inv-loop : tie.InvT-loop
 Inv-loop n last y₀ k₀ y k = (k ≤ n) × (eightfold (n - k) y ≡ eightfold n y₀)

@@ -1,4 +1,4 @@
--- `pair::scaling::max_entry` meets its contract: what the columns still to come make of the largest so far is what all
+-- `pair::factors::max_entry` meets its contract: what the columns still to come make of the largest so far is what all
 -- four make of zero. Assumes nothing.
 use Prim.Native.Nat.{ℕ, _-_, _≤_}
 use native.Mathlib.Omega.{arith}
@@ -8,10 +8,10 @@ use lib.Ieee.{Float}
 use borrow.Author.Needs.{needs}
 use Rattle.geometry.specs.Vec3.{col}
 use Rattle.pair.specs.Count.{count}
-use Rattle.pair.specs.Scaling.{reachColumn, maxEntry}
+use Rattle.pair.specs.Factors.{reachColumn, maxEntry}
 use Rattle.pair.proofs.Counting.{fold-turn, fold-done}
-use Rattle.pair.proofs.scaling.max_entry.Statement.{statement}
-use Rattle.pair.proofs.scaling.max_entry.Tie as tie
+use Rattle.pair.proofs.factors.max_entry.Statement.{statement}
+use Rattle.pair.proofs.factors.max_entry.Tie as tie
 
 -- one column more
 abbrev turn : List (List Float) → List (List Float) → Float → Float → ℕ → Float

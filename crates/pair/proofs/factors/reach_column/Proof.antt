@@ -1,7 +1,7 @@
--- `pair::scaling::reach_column` meets its contract. Assumes nothing.
+-- `pair::factors::reach_column` meets its contract. Assumes nothing.
 use borrow.Author.Needs.{needs}
-use Rattle.pair.proofs.scaling.reach_column.Statement.{statement}
-use Rattle.pair.proofs.scaling.reach_column.Tie as tie
+use Rattle.pair.proofs.factors.reach_column.Statement.{statement}
+use Rattle.pair.proofs.factors.reach_column.Tie as tie
 
 array-read-reach : tie.Need-array-read-reach
 array-read-reach c = search needs

@@ -1,4 +1,4 @@
--- `pair::scaling::eighths` meets its contract: what the definition makes of what is left is what it makes of f. The
+-- `pair::factors::eighths` meets its contract: what the definition makes of what is left is what it makes of f. The
 -- loop ends because at most 42 factors of 8 are taken out of a finite number. Assumes nothing.
 use Prim.Native.Nat.{ℕ, suc, _+_, _-_, _<_}
 use native.Mathlib.Omega.{arith}
@@ -8,10 +8,10 @@ use mathlib.Core.Bool.{Bool, true, false, not}
 use lib.Dec.{T}
 use lib.Ieee.{Float, lt}
 use Rattle.number.specs.Number.{_⊗_, _⊘_}
-use Rattle.pair.specs.Scaling.{eight32, eighths, factorsOf}
+use Rattle.pair.specs.Factors.{eight32, eighths, factorsOf}
 use Rattle.pair.proofs.Eighths.{Left, left-start, left-more, left-next, eighths-turn, eighths-stop}
-use Rattle.pair.proofs.scaling.eighths.Statement.{statement}
-use Rattle.pair.proofs.scaling.eighths.Tie as tie
+use Rattle.pair.proofs.factors.eighths.Statement.{statement}
+use Rattle.pair.proofs.factors.eighths.Tie as tie
 
 abbrev Inv-loop : tie.InvT-loop
 Inv-loop f eights₀ last₀ product₀ eights last product =

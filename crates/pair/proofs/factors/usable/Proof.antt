@@ -1,8 +1,8 @@
--- `pair::scaling::usable` meets its contract. Assumes nothing.
+-- `pair::factors::usable` meets its contract. Assumes nothing.
 use borrow.Author.Needs.{needs}
-use Rattle.pair.specs.Scaling.{usable}
-use Rattle.pair.proofs.scaling.usable.Statement.{statement}
-use Rattle.pair.proofs.scaling.usable.Tie as tie
+use Rattle.pair.specs.Factors.{usable}
+use Rattle.pair.proofs.factors.usable.Statement.{statement}
+use Rattle.pair.proofs.factors.usable.Tie as tie
 
 is-finite-requires : tie.Need-is-finite-requires
 is-finite-requires c κs = search needs
