@@ -1,0 +1,20 @@
+-- Which candidates a split asks for (specs/Nearest.antt). Assumes nothing.
+use Prim.Native.Nat.{ℕ}
+use mathlib.Core.Path.{_≡_}
+use mathlib.Core.List.{List}
+use borrow.Author.Tests.{eq-eqb, ne-eqb}
+use lib.Ieee.{Float}
+use Rattle.geometry.specs.Vec3.{col}
+use Rattle.distance.specs.Candidate.{firstSmallest}
+use Rattle.distance.specs.EdgeEdge.{edgeEdge}
+use Rattle.distance.specs.FaceVertex.{faceVertex}
+use Rattle.distance.specs.Nearest.{candidatesOf, nearestOf}
+
+module _ (split : ℕ) (x : List (List Float)) where
+  pub two : split ≡ 2 → nearestOf split x ≡ firstSmallest (edgeEdge (col x 0) (col x 1) (col x 2) (col x 3))
+  unfolding nearestOf candidatesOf
+  two e = rw (eq-eqb split 2 e)
+
+  pub other : (split ≡ 2 → ⊥) → nearestOf split x ≡ firstSmallest (faceVertex (col x 0) (col x 1) (col x 2) (col x 3))
+  unfolding nearestOf candidatesOf
+  other n = rw (ne-eqb split 2 n)

@@ -1,0 +1,17 @@
+-- `distance::candidate::point_segment` meets its contract. Assumes nothing.
+use borrow.Author.Needs.{needs}
+use Rattle.distance.specs.Candidate.{pointSegment}
+use Rattle.distance.proofs.candidate.point_segment.Statement.{statement}
+use Rattle.distance.proofs.candidate.point_segment.Tie as tie
+
+returns : tie.Need-returns
+unfolding pointSegment
+returns c = cc
+
+pub point-segment-spec : {M : Type 1} → statement M
+point-segment-spec =
+    tie.close
+    (tie.spec
+    (λ c κs. search needs)
+    (λ c κs. search needs)
+    returns)

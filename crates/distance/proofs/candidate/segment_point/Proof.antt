@@ -1,0 +1,17 @@
+-- `distance::candidate::segment_point` meets its contract. Assumes nothing.
+use borrow.Author.Needs.{needs}
+use Rattle.distance.specs.Candidate.{segmentPoint}
+use Rattle.distance.proofs.candidate.segment_point.Statement.{statement}
+use Rattle.distance.proofs.candidate.segment_point.Tie as tie
+
+returns : tie.Need-returns
+unfolding segmentPoint
+returns c = cc
+
+pub segment-point-spec : {M : Type 1} → statement M
+segment-point-spec =
+    tie.close
+    (tie.spec
+    (λ c κs. search needs)
+    (λ c κs. search needs)
+    returns)

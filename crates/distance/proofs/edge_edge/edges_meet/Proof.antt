@@ -1,0 +1,19 @@
+-- `distance::edge_edge::edges_meet` meets its contract. Assumes nothing.
+use borrow.Author.Needs.{needs}
+use Rattle.distance.specs.EdgeEdge.{edgesMeet}
+use Rattle.distance.proofs.edge_edge.edges_meet.Statement.{statement}
+use Rattle.distance.proofs.edge_edge.edges_meet.Tie as tie
+
+returns : tie.Need-returns
+unfolding edgesMeet
+returns c = cc
+
+pub edges-meet-spec : {M : Type 1} → statement M
+edges-meet-spec =
+    tie.close
+    (tie.spec
+    (λ c κs. search needs)
+    (λ c κs. search needs)
+    (λ c κs. search needs)
+    (λ c κs. search needs)
+    returns)

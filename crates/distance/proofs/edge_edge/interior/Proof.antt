@@ -1,0 +1,20 @@
+-- `distance::edge_edge::interior` meets its contract. Assumes nothing.
+use borrow.Author.Needs.{needs}
+use Rattle.distance.specs.EdgeEdge.{edgeInterior}
+use Rattle.distance.proofs.edge_edge.interior.Statement.{statement}
+use Rattle.distance.proofs.edge_edge.interior.Tie as tie
+
+returns : tie.Need-returns
+unfolding edgeInterior
+returns c = cc
+
+pub interior-spec : {M : Type 1} → statement M
+interior-spec =
+    tie.close
+    (tie.spec
+    (λ c κs. search needs)
+    (λ c κs. search needs)
+    (λ c κs. search needs)
+    (λ c κs. search needs)
+    (λ c κs. search needs)
+    returns)

@@ -1,0 +1,17 @@
+-- `distance::face_vertex::over_face` meets its contract. Assumes nothing.
+use borrow.Author.Needs.{needs}
+use Rattle.distance.specs.FaceVertex.{overFace}
+use Rattle.distance.proofs.face_vertex.over_face.Statement.{statement}
+use Rattle.distance.proofs.face_vertex.over_face.Tie as tie
+
+returns : tie.Need-returns
+unfolding overFace
+returns c = cc
+
+pub over-face-spec : {M : Type 1} → statement M
+over-face-spec =
+    tie.close
+    (tie.spec
+    (λ c κs. search needs)
+    (λ c κs. search needs)
+    returns)

@@ -1,0 +1,18 @@
+-- `distance::segment::place_on` meets its contract. Assumes nothing.
+use borrow.Author.Needs.{needs}
+use Rattle.distance.specs.Segment.{placeOn}
+use Rattle.distance.proofs.segment.place_on.Statement.{statement}
+use Rattle.distance.proofs.segment.place_on.Tie as tie
+
+returns : tie.Need-returns
+unfolding placeOn
+returns c = cc
+
+pub place-on-spec : {M : Type 1} → statement M
+place-on-spec =
+    tie.close
+    (tie.spec
+    (λ c κs. search needs)
+    (λ c κs. search needs)
+    (λ c κs. search needs)
+    returns)
