@@ -1,0 +1,252 @@
+-- Times only grow: from a time above the threshold the step is not below zero, and the next time is not before this one
+-- (specs/Step.antt). Nothing on the way is NaN. Assumes nothing.
+use mathlib.Core.Path.{_≡_, refl, sym, ap, _∙_, subst}
+use mathlib.Core.Bool.{Bool, true, false, cond, _&&_, _||_}
+use mathlib.Core.List.{List, [], _∷_}
+use Prim.Native.Nat.{ℕ, zero, suc, _*_, _^_, _≤_, _<_, zero-le}
+use native.Mathlib.Nat.{le-trans, le-of-lt, le-of-eq, lt-of-le-of-lt, mul-assoc}
+use native.Mathlib.Omega.{arith}
+use lib.Dec.{T, ltb, eqb, ltb→lt, lt→ltb, eqb→eq, lit≤}
+use lib.Ieee.{Float, nan, inf, fin, binary32, up, down, lt, le, fits, ofBits}
+use lib.Ieee.Fits.{add-fits, mul-fits, div-fits, cond-fits, and-l, and-r, down-pos}
+use lib.Ieee.Bits.{ofBits-fits}
+use lib.Ieee.Positive.{positive}
+use lib.Ieee.Scale.{finite}
+use Rattle.number.specs.Number.{_⊕_, _⊖_, _⊗_, _⊘_, zero32, half32, one32, smaller, larger}
+use Rattle.number.specs.Range.{limit, leastSpeed, mostSpeed, zeroToLimit, speedRange}
+use Rattle.number.specs.Root.{rootOf}
+use Rattle.number.proofs.Units.{L, Is, Unit32, plus, of-float, lt-says, says-lt, le-says}
+use Rattle.number.proofs.Within.{Within, within-finite, within-more, add-within, sub-within, mul-within}
+use Rattle.number.proofs.Signs.{plus-up, square-plus, sum-plus, product-plus, quotient-plus, AtLeast, div-within}
+use Rattle.number.proofs.Later.{later-any}
+use Rattle.number.proofs.SquareRoot.Bounds.{RootUnits, root-facts, root-within}
+use Rattle.pair.specs.declared.record.Limits.{Limits}
+use Rattle.pair.proofs.Ranges.{zero-limit-within}
+use Rattle.ccd3.specs.declared.Aim.{Aim}
+use Rattle.ccd3.specs.Directional.{Cross, crossPairs, lessened, projected, rate, leastOver, directional, largest}
+use Rattle.ccd3.specs.Step.{park, dip, plain, aim, Visit, step, next}
+use Rattle.ccd3.proofs.PlainStep.{Most, excess-plus}
+
+-- a squared distance that a walk can compute with: an f32 with the sign plus, and not too large
+pub record Sound (d : Float) : Type 0 where
+  pub fit : T (fits binary32 d)
+  pub sign : T (plus d)
+  pub bound : Within 60 d
+
+-- ---- what is picked
+pick-fits : (b : Bool) (x y : Float) → T (fits binary32 x) → T (fits binary32 y) → T (fits binary32 (cond b x y))
+pick-fits b x y p q = cond-fits binary32 b x y p q
+
+larger-fits : (x y : Float) → T (fits binary32 x) → T (fits binary32 y) → T (fits binary32 (larger x y))
+unfolding larger
+larger-fits x y p q = pick-fits (lt x y) y x q p
+
+smaller-fits : (x y : Float) → T (fits binary32 x) → T (fits binary32 y) → T (fits binary32 (smaller x y))
+unfolding smaller
+smaller-fits x y p q = pick-fits (lt y x) y x q p
+
+-- what is above something with the sign plus has it too
+pub above-plus : (x y : Float) → T (plus x) → T (lt x y) → T (plus y)
+unfolding lt
+above-plus (fin false m e) (inf false) p h = tt
+above-plus (fin false m e) (inf true) p h = h
+above-plus (fin false m e) (fin false n d) p h = tt
+above-plus (fin false m e) (fin true n d) p h = h
+above-plus (fin false m e) nan p h = h
+above-plus (inf false) nan p h = h
+above-plus (inf false) (inf true) p h = h
+above-plus (inf false) (inf false) p h = tt
+above-plus (inf false) (fin t n d) p h = absurd h
+
+larger-plus : (x y : Float) → T (plus x) → T (plus (larger x y))
+unfolding larger
+larger-plus x y p = go (lt x y) (above-plus x y p)
+  where
+    go : (b : Bool) → (T b → T (plus y)) → T (plus (cond b y x))
+    go true h = h tt
+    go false h = p
+
+-- ---- the directional step is an f32
+lessened-fits : (a : Aim) (least reach speed : Float) → T (fits binary32 least)
+    → T (fits binary32 (lessened a least reach speed))
+unfolding lessened
+lessened-fits a least reach speed h =
+    pick-fits (lt zero32 speed) (smaller least (larger (reach ⊖ a .park ⊗ a .norm) zero32 ⊘ speed)) least
+    (smaller-fits least (larger (reach ⊖ a .park ⊗ a .norm) zero32 ⊘ speed) h
+    (div-fits binary32 (larger (reach ⊖ a .park ⊗ a .norm) zero32) speed)) h
+
+least-fits : (x dx : List (List Float)) (a : Aim) (ps : List Cross) (least : Float) → T (fits binary32 least)
+    → T (fits binary32 (leastOver x dx a ps least))
+unfolding leastOver
+least-fits x dx a [] least h = h
+least-fits x dx a (p ∷ ps) least h =
+    let least′ = lessened a least (projected x dx a p) (rate dx (a .w) p) in
+    pick-fits (le (projected x dx a p) (a .dip ⊗ a .norm)) zero32 (leastOver x dx a ps least′)
+    (ofBits-fits binary32 0)
+    (least-fits x dx a ps (lessened a least (projected x dx a p) (rate dx (a .w) p))
+    (lessened-fits a least (projected x dx a p) (rate dx (a .w) p) h))
+
+directional-fits : (x dx : List (List Float)) (split : ℕ) (a : Aim) → T (fits binary32 (directional x dx split a))
+unfolding directional
+directional-fits x dx split a = least-fits x dx a (crossPairs split) largest (ofBits-fits binary32 0x7f7f_ffff)
+
+-- ---- the plain step
+from-zero : (x : Float) → T (zeroToLimit x) → T (le zero32 x)
+from-zero x h = and-l (le zero32 x) (le x limit) h
+
+limit-is : Is limit Most
+unfolding ofBits
+limit-is = refl
+
+-- a number from 0 to 2 ^ 20, in units
+limited : (x : Float) → T (fits binary32 x) → T (zeroToLimit x) → (u : ℕ) × Unit32 x u × (u ≤ Most)
+limited x f h =
+    let i = of-float x f (within-finite 20 x (zero-limit-within x h)) (from-zero x h) in
+    (i .0, i .1, le-says x limit (i .0) Most (i .1 .is) limit-is (and-r (le zero32 x) (le x limit) h))
+
+-- a speed of 2 ^ -60 at least
+speed-least : (u : Float) → T (speedRange u) → AtLeast 60 u × T (positive u)
+unfolding le ofBits
+speed-least u h = go u (and-l (le leastSpeed u) (le u mostSpeed) h) (and-r (le leastSpeed u) (le u mostSpeed) h)
+  where
+    some : (a b c : ℕ) → 0 < a → a ≤ b * c → 0 < b
+    some a zero c h k = omega arith
+    some a (suc b) c h k = omega arith
+
+    at-least : (a b : ℕ) (s t : Bool) → (T s → a < b) → (T t → a ≡ b) → T (s || (t && true)) → a ≤ b
+    at-least a b true t f g h = le-of-lt (f tt)
+    at-least a b false true f g h = le-of-eq (g tt)
+    at-least a b false false f g h = absurd h
+
+    below : (a : ℕ) → 0 < a → 0 < 1 * 1 * a
+    below a h = omega arith
+
+    plain-le : (a b : ℕ) → 1 * 1 * a ≤ b → a ≤ b
+    plain-le a b h = omega arith
+
+    spread : (a n u p : ℕ) → 1 * 1 * a ≤ n * u * p → a ≤ n * (u * p)
+    spread a n u p h = le-trans (plain-le a (n * u * p) h) (le-of-eq (mul-assoc n u p))
+
+    none : (a : ℕ) (s t : Bool) → 0 < a → (T t → a ≡ 0) → T (s && t) → ⊥
+    none a true true p g h = omega (arith, g tt)
+
+    go : (u : Float) → T (le leastSpeed u) → T (le u mostSpeed) → AtLeast 60 u × T (positive u)
+    go nan a b = absurd a
+    go (inf true) a b = absurd a
+    go (inf false) a b = absurd b
+    go (fin true n d) a b =
+        let l = 1 * 1 * down d in
+        absurd (none l (eqb l (n * up d * 2 ^ 60)) (eqb l 0) (below (down d) (down-pos d)) (eqb→eq l 0) a)
+    go (fin false n d) a b =
+        let l = 1 * 1 * down d in
+        let r = n * up d * 2 ^ 60 in
+        let k : l ≤ r = at-least l r (ltb l r) (eqb l r) (ltb→lt l r) (eqb→eq l r) a in (
+          plain-le (down d) r k,
+          lt→ltb 0 n (some (down d) n (up d * 2 ^ 60) (down-pos d) (spread (down d) n (up d) (2 ^ 60) k)),
+        )
+
+one-facts : Within 0 one32 × T (plus one32)
+unfolding ofBits
+one-facts = (lit≤ tt, tt)
+
+inverse-sound : (u : Float) → T (speedRange u) → Within 60 (one32 ⊘ u) × T (plus (one32 ⊘ u))
+inverse-sound u h =
+    let s = speed-least u h in (
+      div-within 0 60 one32 u (lit≤ tt) (one-facts .0) (s .0),
+      quotient-plus one32 u (within-finite 0 one32 (one-facts .0)) (s .1) (one-facts .1),
+    )
+
+half-within : Within 0 half32
+unfolding ofBits
+half-within = lit≤ tt
+
+-- what a walk is given: limits in their ranges, each an f32
+pub record Given (l : Limits) : Type 0 where
+  pub offset-fits : T (fits binary32 (l .offset))
+  pub clearance-fits : T (fits binary32 (l .clearance))
+  pub offset-in : T (zeroToLimit (l .offset))
+  pub clearance-in : T (zeroToLimit (l .clearance))
+  pub speed-in : T (speedRange (l .«u_max»))
+
+module _ (l : Limits) (g : Given l) where
+  dip-within : Within 21 (dip l)
+  dip-within =
+      add-within 20 (l .offset) (l .clearance ⊗ half32) (lit≤ tt) (zero-limit-within (l .offset) (g .offset-in))
+      (mul-within 20 0 (l .clearance) half32 (lit≤ tt) (zero-limit-within (l .clearance) (g .clearance-in)) half-within)
+
+  park-within : Within 21 (park l)
+  park-within =
+      add-within 20 (l .offset) (l .clearance) (lit≤ tt) (zero-limit-within (l .offset) (g .offset-in))
+      (zero-limit-within (l .clearance) (g .clearance-in))
+
+  pub squared-park : (u : ℕ) × Unit32 (park l ⊗ park l) u
+  squared-park =
+      of-float (park l ⊗ park l) (mul-fits binary32 (park l) (park l))
+      (within-finite 42 (park l ⊗ park l) (mul-within 21 21 (park l) (park l) (lit≤ tt) park-within park-within))
+      (plus-up (park l ⊗ park l) (square-plus (park l) (within-finite 21 (park l) park-within)))
+
+module _ (l : Limits) (g : Given l) (d : Float) (s : Sound d) (above : T (lt (park l ⊗ park l) d)) where
+  own : (v : ℕ) × Unit32 d v
+  own = of-float d (s .fit) (within-finite 60 d (s .bound)) (plus-up d (s .sign))
+
+  positive-own : T (lt zero32 d)
+  unfolding ofBits
+  positive-own =
+      says-lt zero32 d 0 (own .0) refl (own .1 .is)
+      (lt-of-le-of-lt zero-le
+      (lt-says (park l ⊗ park l) d (squared-park l g .0) (own .0) (squared-park l g .1 .is) (own .1 .is) above))
+
+  root : RootUnits d (own .0)
+  root = root-facts d (own .0) (s .fit) positive-own (own .1 .is)
+
+  excess : T (plus (rootOf d ⊖ dip l))
+  excess =
+      let o = limited (l .offset) (g .offset-fits) (g .offset-in) in
+      let c = limited (l .clearance) (g .clearance-fits) (g .clearance-in) in
+      excess-plus l d (rootOf d) (o .0) (c .0) (own .0) (root .units) (o .1) (c .1) (own .1) (root .is) (o .2) (c .2)
+      (root .near) above (root .sign)
+
+  pub plain-plus : T (plus (plain l (rootOf d)))
+  plain-plus =
+      let i = inverse-sound (l .«u_max») (g .speed-in) in
+      product-plus (rootOf d ⊖ dip l) (one32 ⊘ l .«u_max»)
+      (within-finite 31 (rootOf d ⊖ dip l)
+      (sub-within 30 (rootOf d) (dip l) (lit≤ tt) (root-within 30 d (lit≤ tt) (s .fit) (s .bound))
+      (within-more 21 30 (dip l) (lit≤ tt) (dip-within l g))))
+      (within-finite 60 (one32 ⊘ l .«u_max») (i .0)) excess (i .1)
+
+-- ---- the step, and the next time
+module _ (dx : List (List Float)) (split : ℕ) (l : Limits) (g : Given l) (v : Visit) (s : Sound (v .near .squared))
+    (above : T (lt (park l ⊗ park l) (v .near .squared))) where
+  abbrev p : Float
+  p = plain l (rootOf (v .near .squared))
+
+  step-plus : T (plus (step dx split l v))
+  unfolding step
+  step-plus = go (le (v .time ⊕ p) (l .«max_t»))
+    where
+      go : (b : Bool) → T (plus (cond b (larger p (directional (v .points) dx split (aim l (v .near)))) p))
+      go true =
+          larger-plus p (directional (v .points) dx split (aim l (v .near))) (plain-plus l g (v .near .squared) s above)
+      go false = plain-plus l g (v .near .squared) s above
+
+  step-fits : T (fits binary32 (step dx split l v))
+  unfolding step
+  step-fits =
+      pick-fits (le (v .time ⊕ p) (l .«max_t»)) (larger p (directional (v .points) dx split (aim l (v .near)))) p
+      (larger-fits p (directional (v .points) dx split (aim l (v .near)))
+      (mul-fits binary32 (rootOf (v .near .squared) ⊖ dip l) (one32 ⊘ l .«u_max»))
+      (directional-fits (v .points) dx split (aim l (v .near))))
+      (mul-fits binary32 (rootOf (v .near .squared) ⊖ dip l) (one32 ⊘ l .«u_max»))
+
+  -- not before this time; with the sign plus, so no NaN
+  pub next-later : T (fits binary32 (v .time)) → T (finite (v .time)) → T (plus (v .time))
+      → T (le (v .time) (next dx split l v)) × T (plus (next dx split l v))
+  next-later f k q = (
+    later-any (v .time) (step dx split l v) f k q (plus-up (v .time) q) step-fits
+        (plus-up (step dx split l v) step-plus) .0,
+    sum-plus (v .time) (step dx split l v) q step-plus,
+  )
+
+  pub next-fits : T (fits binary32 (next dx split l v))
+  next-fits = add-fits binary32 (v .time) (step dx split l v)

@@ -1,0 +1,212 @@
+-- Every walk from a place to stand keeps the promises (specs/Promise.antt): the counts, the range of the time, and the
+-- computed squared distance at the time, at its neighbour and at the probes. Assumes nothing.
+use mathlib.Core.Path.{_≡_, refl, sym, ap, _∙_, subst}
+use mathlib.Core.Bool.{Bool, true, false, cond, not}
+use mathlib.Core.List.{List, [], _∷_}
+use Prim.Native.Nat.{ℕ, zero, suc, _+_, _*_, _≤_, _<_, zero-le, suc-le-suc}
+use native.Mathlib.Nat.{le-trans, le-of-lt, lt-of-lt-of-le}
+use native.Mathlib.Omega.{arith}
+use lib.Dec.{T, ltb, nltb→le, lit≤}
+use lib.ListN.{length}
+use lib.IntN.{ℤ}
+use lib.Ieee.{Float, nan, inf, fin, binary32, up, down, lt, le, fits, toBits, ofBits}
+use lib.Ieee.Bits.{ofBits-toBits, ofBits-fits}
+use lib.Ieee.Fits.{down-pos}
+use Rattle.number.specs.Number.{zero32, larger, nextUp}
+use Rattle.number.specs.Halving.{Halved, halve}
+use Rattle.number.proofs.Units.{L, Is, Unit32, plus, same-float, lt-is, lt-says, le-says, says-le}
+use Rattle.number.proofs.Signs.{plus-up}
+use Rattle.number.proofs.Halvings.{Ends}
+use Rattle.pair.specs.declared.record.Limits.{Limits}
+use Rattle.ccd3.specs.declared.Answer.{Answer}
+use Rattle.ccd3.specs.declared.Answer.the-variants.{Touching, Contact, Clear, Budget, Refused}
+use Rattle.ccd3.specs.Step.{Visit, next}
+use Rattle.ccd3.specs.Walk.{Walked, visit, above, closing, written, cleared, spent, met, probing, walk}
+use Rattle.ccd3.specs.SafeTime.{squaredPark}
+use Rattle.ccd3.specs.Promise.{InTime, Every, Stopped, Paused}
+use Rattle.ccd3.proofs.WalkLaws.{walk-clears, walk-spends, walk-meets, walk-steps}
+use Rattle.ccd3.proofs.Bracket.{Timely, timely-refl, Bracket, Held, bracket-ends}
+use Rattle.ccd3.proofs.Growth.{above-plus}
+use Rattle.ccd3.proofs.Standing.{
+  zero-timely,
+  Ground,
+  Standing,
+  limit-from,
+  limit-units,
+  stands-on,
+  brackets,
+  next-limit,
+  next-timely,
+}
+
+zero-is : Is zero32 0
+unfolding ofBits
+zero-is = refl
+
+-- ---- a time with the sign plus is written as it is
+is-zero : (t : Float) (i : Timely t) → i .units ≡ 0 → t ≡ zero32
+unfolding ofBits
+is-zero t i e =
+    same-float t zero32 0 (i .fit) (ofBits-fits binary32 0) (i .sign) tt (subst (λ (u : ℕ). Is t u) e (i .is)) zero-is
+
+written-plus : (t : Float) → Timely t → t ≡ written t
+unfolding larger
+written-plus t i = go (lt zero32 t) (lt-is zero32 t 0 (i .units) zero-is (i .is))
+  where
+    go : (b : Bool) → b ≡ ltb 0 (i .units) → t ≡ cond b t zero32
+    go true e = refl
+    go false e = is-zero t i (none (i .units) (nltb→le 0 (i .units) (subst (λ (c : Bool). T (not c)) e tt)))
+      where
+        none : (u : ℕ) → u ≤ 0 → u ≡ 0
+        none u h = omega arith
+
+-- ---- the next f32 up
+zero-next : ofBits binary32 (suc (toBits binary32 zero32)) ≡ ofBits binary32 1
+unfolding toBits ofBits
+zero-next = refl
+
+up-next : (x y : Float) → Timely x → Timely y → toBits binary32 y ≡ suc (toBits binary32 x) → y ≡ nextUp x
+unfolding nextUp
+up-next x y i j e = sym (ofBits-toBits binary32 y (j .fit)) ∙ ap (ofBits binary32) e ∙ go x i
+  where
+    none : (a b u d : ℕ) → 0 < d → 0 * a * b ≡ u * d → u ≡ 0
+    none a b zero d h e = refl
+    none a b (suc u) d h e = omega arith
+
+    go : (x : Float) → Timely x → ofBits binary32 (suc (toBits binary32 x)) ≡ nextUp x
+    go (fin false zero e) i =
+        ap (λ (z : Float). ofBits binary32 (suc (toBits binary32 z)))
+        (is-zero (fin false zero e) i (none (up e) L (i .units) (down e) (down-pos e) (i .is)))
+        ∙ zero-next
+    go (fin false (suc m) e) i = refl
+    go (fin true m e) i = absurd (i .sign)
+    go (inf s) i = absurd (i .is)
+    go nan i = absurd (i .is)
+
+module _ (x₀ dx : List (List Float)) (split : ℕ) (l : Limits) (g : Ground x₀ dx split l) where
+  abbrev far : Float → Bool
+  far = above x₀ dx split (squaredPark l)
+
+  -- what an answer says of a walk that probed these times
+  abbrev pub Says : List Float → Answer → Type 0
+  Says probed (Contact t) = Stopped x₀ dx split l t
+  Says probed (Clear t) = (t ≡ written (l .«max_t»)) × Every (λ (u : Float). far u ≡ true) probed
+  Says probed (Budget t) = Paused x₀ dx split l t
+  Says probed (Touching t) = ⊥
+  Says probed (Refused n) = ⊥
+
+  pub record Kept (left : ℕ) (w : Walked) : Type 0 where
+    pub probes : length (w .probed) ≤ left
+    pub halvings : w .halvings ≤ 256
+    pub says : Says (w .probed) (w .answer)
+
+  in-time : (t : Float) → Timely t → T (le t (l .«max_t»)) → InTime l t
+  in-time t i h = record { from = plus-up t (i .sign); to = h; plus = written-plus t i }
+
+  -- the time limit as it is answered
+  pub clear-in-time : (t : Float) → t ≡ written (l .«max_t») → InTime l t
+  unfolding larger
+  clear-in-time t e = subst (InTime l) (sym e) (go (lt zero32 (l .«max_t»)) (above-plus zero32 (l .«max_t») (zero-timely .sign)))
+    where
+      go : (b : Bool) → (T b → T (plus (l .«max_t»))) → InTime l (cond b (l .«max_t») zero32)
+      go true h =
+          let m = limit-units x₀ dx split l g in
+          let i : Timely (l .«max_t») =
+          record { units = m .0; is = m .1 .is; fit = g .limit-fits; sign = h tt } in
+          in-time (l .«max_t») i (timely-refl (l .«max_t») i)
+      go false h = in-time zero32 zero-timely (limit-from x₀ dx split l g)
+
+  -- a bracket within the limit stops well
+  stopped : (lower upper : Float) → T (le upper (l .«max_t»)) → Bracket far lower upper
+      → Stopped x₀ dx split l (closing x₀ dx split (squaredPark l) lower upper .lower)
+      × (closing x₀ dx split (squaredPark l) lower upper .count ≤ 256)
+  unfolding closing
+  stopped lower upper h b =
+      let r = bracket-ends far lower upper b in
+      let e = r .0 in
+      let k = r .1 in
+      let c = halve far 255 0 lower upper in
+      let n : c .upper ≡ nextUp (c .lower) = up-next (c .lower) (c .upper) (k .lower) (k .upper) (e .next-up) in
+      let m = limit-units x₀ dx split l g in
+      let a : k .upper .units ≤ b .high .units =
+      le-says (c .upper) upper (k .upper .units) (b .high .units) (k .upper .is) (b .high .is) (k .under) in
+      let a′ : b .high .units ≤ m .0 = le-says upper (l .«max_t») (b .high .units) (m .0) (b .high .is) (m .1 .is) h in
+      let o : k .lower .units < k .upper .units =
+      lt-says (c .lower) (c .upper) (k .lower .units) (k .upper .units) (k .lower .is) (k .upper .is) (e .in-order) in
+      let under : T (le (c .upper) (l .«max_t»)) =
+      says-le (c .upper) (l .«max_t») (k .upper .units) (m .0) (k .upper .is) (m .1 .is) (le-trans a a′) in (
+        record {
+          in-time = in-time (c .lower) (k .lower)
+              (says-le (c .lower) (l .«max_t») (k .lower .units) (m .0) (k .lower .is) (m .1 .is)
+              (le-of-lt (lt-of-lt-of-le o (le-trans a a′))));
+          far = e .true-below;
+          next-near = ap far (sym n) ∙ e .false-above;
+          next-in-time = subst (λ (t : Float). T (le t (l .«max_t»))) n under;
+        },
+        le-trans (e .bounded) (lit≤ tt),
+      )
+
+  -- ---- every walk
+  every : (t : Float) (ps : List Float) → far t ≡ true → (a : Answer) → Says ps a → Says (t ∷ ps) a
+  unfolding Every
+  every t ps f (Contact u) h = h
+  every t ps f (Clear u) h = (h .0, (f, h .1))
+  every t ps f (Budget u) h = h
+
+  module _ (v : Visit) (s : Standing x₀ dx split l g v) where
+    abbrev t : Float
+    t = next dx split l v
+
+    abbrev W : ℕ → Visit → Walked
+    W = walk x₀ dx split (squaredPark l) l
+
+    clear-keeps : (left : ℕ) → lt (l .«max_t») t ≡ true → Kept left (W left v)
+    unfolding Every
+    clear-keeps left p =
+        subst (Kept left) (sym (walk-clears x₀ dx split (squaredPark l) l left v p))
+        (record { probes = zero-le; halvings = zero-le; says = (refl, tt) })
+
+    spent-keeps : lt (l .«max_t») t ≡ false → Kept 0 (W 0 v)
+    spent-keeps p =
+        subst (Kept 0) (sym (walk-spends x₀ dx split (squaredPark l) l v p))
+        (record {
+          probes = zero-le;
+          halvings = zero-le;
+          says = record { in-time = in-time (v .time) (s .time) (s .in-limit); far = s .apart-at };
+        })
+
+    met-keeps : (left : ℕ) → lt (l .«max_t») t ≡ false → far t ≡ false → Kept (suc left) (W (suc left) v)
+    met-keeps left p a =
+        let r = stopped (v .time) t (next-limit x₀ dx split l g v s p) (brackets x₀ dx split l g v s p a) in
+        subst (Kept (suc left)) (sym (walk-meets x₀ dx split (squaredPark l) l left v p a))
+        (record { probes = suc-le-suc zero-le; halvings = r .1; says = r .0 })
+
+    step-keeps : (left : ℕ) → lt (l .«max_t») t ≡ false → far t ≡ true
+        → Kept left (W left (visit x₀ dx split t)) → Kept (suc left) (W (suc left) v)
+    step-keeps left p a k =
+        let w = W left (visit x₀ dx split t) in
+        subst (Kept (suc left)) (sym (walk-steps x₀ dx split (squaredPark l) l left v p a))
+        (record {
+          probes = suc-le-suc (k .probes);
+          halvings = k .halvings;
+          says = every t (w .probed) a (w .answer) (k .says);
+        })
+
+  pub walk-keeps : (left : ℕ) (v : Visit) → Standing x₀ dx split l g v
+      → Kept left (walk x₀ dx split (squaredPark l) l left v)
+  walk-keeps zero v s = go (lt (l .«max_t») (next dx split l v)) refl
+    where
+      go : (b : Bool) → lt (l .«max_t») (next dx split l v) ≡ b → Kept 0 (walk x₀ dx split (squaredPark l) l 0 v)
+      go true p = clear-keeps v s 0 p
+      go false p = spent-keeps v s p
+  walk-keeps (suc left) v s =
+      go (lt (l .«max_t») (next dx split l v)) (far (next dx split l v)) refl refl
+      (walk-keeps left (visit x₀ dx split (next dx split l v)))
+    where
+      go : (b c : Bool) → lt (l .«max_t») (next dx split l v) ≡ b → far (next dx split l v) ≡ c
+          → (Standing x₀ dx split l g (visit x₀ dx split (next dx split l v))
+          → Kept left (walk x₀ dx split (squaredPark l) l left (visit x₀ dx split (next dx split l v))))
+          → Kept (suc left) (walk x₀ dx split (squaredPark l) l (suc left) v)
+      go true c p a h = clear-keeps v s (suc left) p
+      go false true p a h = step-keeps v s left p a (h (stands-on x₀ dx split l g v s p a))
+      go false false p a h = met-keeps v s left p a

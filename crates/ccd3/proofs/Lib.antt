@@ -1,0 +1,13 @@
+-- Proofs and laws of `ccd3`. What other crates may cite is public.
+pub mod WalkLaws
+pub mod StartLaws
+pub mod Bracket
+pub mod PlainStep
+pub mod Growth
+pub mod Standing
+pub mod Kept
+pub mod Promises
+pub mod Clauses
+mod CrossPairs
+mod HalvingLoop
+mod WalkLoop

@@ -1,0 +1,50 @@
+-- What a walk does from a visit: the four laws by which it is known (specs/Walk.antt). Assumes nothing.
+use mathlib.Core.Path.{_≡_, refl, ap, _∙_}
+use mathlib.Core.Bool.{Bool, true, false}
+use mathlib.Core.List.{List}
+use Prim.Native.Nat.{ℕ, zero, suc}
+use lib.Ieee.{Float, lt}
+use Rattle.pair.specs.declared.record.Limits.{Limits}
+use Rattle.ccd3.specs.Step.{Visit, next}
+use Rattle.ccd3.specs.Walk.{Walked, visit, above, cleared, spent, met, probing, walk}
+
+module _ (x₀ dx : List (List Float)) (split : ℕ) (threshold : Float) (l : Limits) where
+  abbrev past : Visit → Bool
+  past v = lt (l .«max_t») (next dx split l v)
+
+  abbrev apart : Visit → Bool
+  apart v = above x₀ dx split threshold (next dx split l v)
+
+  -- by the tests at the step's end
+  abbrev by-probe : ℕ → Visit → Bool → Walked
+  by-probe left v b = elim b as (λ _. Walked) [
+    | true ↦ probing (next dx split l v) (walk x₀ dx split threshold l left (visit x₀ dx split (next dx split l v)))
+    | false ↦ met x₀ dx split threshold (v .time) (next dx split l v)
+  ]
+
+  abbrev by-limit : Walked → Bool → Walked
+  by-limit w b = elim b as (λ _. Walked) [ true ↦ cleared l | false ↦ w ]
+
+  -- past the time limit the walk is clear
+  pub walk-clears : (left : ℕ) (v : Visit) → past v ≡ true → walk x₀ dx split threshold l left v ≡ cleared l
+  unfolding walk
+  walk-clears zero v e = ap (by-limit (spent v)) e
+  walk-clears (suc left) v e = ap (by-limit (by-probe left v (apart v))) e
+
+  -- else, with no probe left, it ends at the last time
+  pub walk-spends : (v : Visit) → past v ≡ false → walk x₀ dx split threshold l 0 v ≡ spent v
+  unfolding walk
+  walk-spends v e = ap (by-limit (spent v)) e
+
+  -- else, where the probe is not above the threshold, it closes in
+  pub walk-meets : (left : ℕ) (v : Visit) → past v ≡ false → apart v ≡ false
+      → walk x₀ dx split threshold l (suc left) v ≡ met x₀ dx split threshold (v .time) (next dx split l v)
+  unfolding walk
+  walk-meets left v e f = ap (by-limit (by-probe left v (apart v))) e ∙ ap (by-probe left v) f
+
+  -- and otherwise goes on from there
+  pub walk-steps : (left : ℕ) (v : Visit) → past v ≡ false → apart v ≡ true
+      → walk x₀ dx split threshold l (suc left) v
+      ≡ probing (next dx split l v) (walk x₀ dx split threshold l left (visit x₀ dx split (next dx split l v)))
+  unfolding walk
+  walk-steps left v e f = ap (by-limit (by-probe left v (apart v))) e ∙ ap (by-probe left v) f

@@ -1,0 +1,27 @@
+-- `ccd3::directional::projected` meets its contract. Assumes nothing.
+use borrow.Author.Needs.{needs}
+use Rattle.ccd3.specs.Directional.{projected}
+use Rattle.ccd3.proofs.directional.projected.Statement.{statement}
+use Rattle.ccd3.proofs.directional.projected.Tie as tie
+
+returns : tie.Need-returns
+unfolding projected
+returns c =
+    rw (
+      c .dot3 .ensures,
+      c .before .before .before .before .dot2 .ensures,
+      c .before .before .before .before .before .before .dot .ensures,
+      c .before .before .before .before .before .sizes3 .ensures,
+      c .before .before .before .before .before .before .before .sizes2 .ensures,
+      c .before .before .before .before .before .before .before .before .sizes .ensures,
+      c .before .before .before .before .before .before .before .before .before .sub2 .ensures,
+      c .before .before .before .before .before .before .before .before .before .before .before .before .sub .ensures,
+    )
+
+pub projected-spec : {M : Type 1} → statement M
+projected-spec =
+    tie.close
+    (tie.spec (λ c. search needs) (λ c. search needs) (λ c. search needs) (λ c. search needs) (λ c κs. search needs)
+    (λ c. search needs) (λ c. search needs) (λ c. search needs) (λ c. search needs) (λ c κs. search needs)
+    (λ c κs. search needs) (λ c κs. search needs) (λ c κs. search needs) (λ c κs. search needs)
+    (λ c κs. search needs) (λ c κs. search needs) returns)

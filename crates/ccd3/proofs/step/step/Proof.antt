@@ -1,0 +1,24 @@
+-- `ccd3::step::step` meets its contract, by either way through its test. Assumes nothing.
+use borrow.Author.Needs.{needs}
+use Rattle.ccd3.specs.Step.{step}
+use Rattle.ccd3.proofs.step.step.Statement.{statement}
+use Rattle.ccd3.proofs.step.step.Tie as tie
+
+returns : tie.Need-returns
+unfolding step
+returns c =
+    rw (
+      c .larger .ensures,
+      c .before .directional-advance .ensures,
+      ← c .before .before .before .before .before .before .root .ensures,
+      c .before .before .before .if1 .taken,
+    )
+
+returns-2 : tie.Need-returns-2
+unfolding step
+returns-2 c = rw (← c .before .before .before .root .ensures, c .if1 .left)
+
+pub step-spec : {M : Type 1} → statement M
+step-spec =
+    tie.close
+    (tie.spec (λ c κs. search needs) (λ c κs. search needs) (λ c κs. search needs) returns returns-2)

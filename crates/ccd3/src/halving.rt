@@ -1,0 +1,51 @@
+// The halving between a time above the threshold and one that is not (ccd3.rs: the second loop of
+// `maximum_safe_time_accurate`).
+ghost use mathlib.Core.Path.{_≡_};
+ghost use Rattle.ccd3.specs.Walk as Def;
+use geometry::mat3x4_array_of_cols::add_scaled;
+
+// Where the halving ended: the last time above the threshold, and how many halvings there were.
+pub struct Closed {
+    pub lower: f32,
+    pub count: u32,
+}
+
+// Whether the squared distance at a time is above the threshold.
+fn is_above(x0: [[f32; 3]; 4], dx: [[f32; 3]; 4], split: usize, threshold: f32, t: f32) -> bool
+    ensures { λ r. ⌜ r ≡ Def.above x0 dx split threshold t ⌝ }
+{
+    distance::nearest::is_above(add_scaled(x0, dx, t), split, threshold)
+}
+
+// Midpoints, until the computed window repeats. The last halving, which moves nothing, is counted.
+pub fn close_in(
+    x0: [[f32; 3]; 4],
+    dx: [[f32; 3]; 4],
+    split: usize,
+    threshold: f32,
+    from: f32,
+    to: f32,
+) -> Closed
+    ensures lower { λ r. ⌜ r .lower ≡ Def.closing x0 dx split threshold from to .lower ⌝ }
+    ensures count { λ r. ⌜ r .count ≡ Def.closing x0 dx split threshold from to .count ⌝ }
+{
+    let mut lower = from;
+    let mut upper = to;
+    let mut window = upper - lower;
+    let mut count: u32 = 0;
+    while count < 255 {
+        let middle = 0.5 * (upper + lower);
+        if is_above(x0, dx, split, threshold, middle) {
+            lower = middle;
+        } else {
+            upper = middle;
+        }
+        count += 1;
+        let narrower = upper - lower;
+        if narrower == window {
+            return Closed { lower, count };
+        }
+        window = narrower;
+    }
+    Closed { lower, count }
+}

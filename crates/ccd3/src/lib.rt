@@ -1,0 +1,31 @@
+// The safe time of a pair (ccd3.rs: `directional_advance`, `maximum_safe_time_accurate`).
+// How a call ends, each case with its time, or a refusal's number.
+pub enum Answer {
+    Touching(f32),
+    Contact(f32),
+    Clear(f32),
+    Budget(f32),
+    Refused(u32),
+}
+
+// The answer, and how many probes and halvings were made.
+pub struct SafeTime {
+    pub answer: Answer,
+    pub probes: u32,
+    pub halvings: u32,
+}
+
+// What a directional step is taken along and held against: the direction, its norm, dip, park and the time limit.
+pub struct Aim {
+    pub w: [f32; 3],
+    pub norm: f32,
+    pub dip: f32,
+    pub park: f32,
+    pub max_t: f32,
+}
+
+pub mod directional;
+pub mod halving;
+pub mod safe_time;
+pub mod step;
+pub mod walk;
