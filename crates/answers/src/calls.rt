@@ -2,6 +2,7 @@
 // is put into the bytes of the answer, which are zeros until then.
 use crate::points;
 use crate::roots;
+use crate::safe_time;
 use crate::scaling;
 
 pub fn answer(function: u32, call: &[u8], out: &mut [u8]) {
@@ -15,6 +16,7 @@ pub fn answer(function: u32, call: &[u8], out: &mut [u8]) {
         8 => scaling::normalize(call, out),
         9 => roots::quadratic_root(call, out),
         10 => roots::cubic_roots(call, out),
+        12 => safe_time::maximum_safe_time(call, out),
         _ => {}
     }
 }

@@ -5,6 +5,7 @@ ghost use Rattle.io.specs.Counts.{Counts};
 mod calls;
 mod points;
 mod roots;
+mod safe_time;
 mod scaling;
 mod sizes;
 mod words;
