@@ -11,10 +11,13 @@ use lib.Ieee.{Float, binary32, add, lt, le, fits}
 use lib.Ieee.Fits.{mul-fits}
 use Rattle.number.specs.Number.{zero32, half32, one32}
 use Rattle.number.specs.Halving.{midpoint, nextLower, nextUpper, repeats, Halved, halve}
-use Rattle.number.proofs.Units.{Is, plus, le-says, says-le}
+use Rattle.number.proofs.Halvings.{Ends, begin, ends}
+use Rattle.number.proofs.Halvings.Turn.{Inv, next, few}
+use Rattle.number.proofs.Plus.{mid-plus}
 use Rattle.number.proofs.Signs.{plus-up}
+use Rattle.number.proofs.Units.{plus}
+use Rattle.number.proofs.Units.Compared.{Is, le-says, says-le}
 use Rattle.number.proofs.Window.{Split, step-at}
-use Rattle.number.proofs.Halvings.{mid-plus, Inv, next, few, Ends, begin, ends}
 
 -- a time that a walk can stand at: a float of f32 from 0 up, with the sign plus, of so many units
 pub record Timely (t : Float) : Type 0 where

@@ -15,11 +15,13 @@ use lib.Ieee.Scale.{finite}
 use Rattle.number.specs.Number.{_⊕_, _⊖_, _⊗_, _⊘_, zero32, half32, one32, smaller, larger}
 use Rattle.number.specs.Range.{limit, leastSpeed, mostSpeed, zeroToLimit, speedRange}
 use Rattle.number.specs.Root.{rootOf}
-use Rattle.number.proofs.Units.{L, Is, Unit32, plus, of-float, lt-says, says-lt, le-says}
-use Rattle.number.proofs.Within.{Within, within-finite, within-more, add-within, sub-within, mul-within}
-use Rattle.number.proofs.Signs.{plus-up, square-plus, sum-plus, product-plus, quotient-plus, AtLeast, div-within}
 use Rattle.number.proofs.Later.{later-any}
+use Rattle.number.proofs.Quotients.{AtLeast, div-within}
+use Rattle.number.proofs.Signs.{plus-up, square-plus, sum-plus, product-plus, quotient-plus}
 use Rattle.number.proofs.SquareRoot.Bounds.{RootUnits, root-facts, root-within}
+use Rattle.number.proofs.Units.{Unit32, plus, of-float}
+use Rattle.number.proofs.Units.Compared.{L, Is, lt-says, says-lt, le-says}
+use Rattle.number.proofs.Within.{Within, within-finite, within-more, add-within, sub-within, mul-within}
 use Rattle.pair.specs.declared.record.Limits.{Limits}
 use Rattle.pair.proofs.Ranges.{zero-limit-within}
 use Rattle.ccd3.specs.declared.Aim.{Aim}

@@ -14,9 +14,10 @@ use lib.Ieee.Bits.{ofBits-toBits, ofBits-fits}
 use lib.Ieee.Fits.{down-pos}
 use Rattle.number.specs.Number.{zero32, larger, nextUp}
 use Rattle.number.specs.Halving.{Halved, halve}
-use Rattle.number.proofs.Units.{L, Is, Unit32, plus, same-float, lt-is, lt-says, le-says, says-le}
-use Rattle.number.proofs.Signs.{plus-up}
 use Rattle.number.proofs.Halvings.{Ends}
+use Rattle.number.proofs.Signs.{plus-up}
+use Rattle.number.proofs.Units.{Unit32, plus, same-float}
+use Rattle.number.proofs.Units.Compared.{L, Is, lt-is, lt-says, le-says, says-le}
 use Rattle.pair.specs.declared.record.Limits.{Limits}
 use Rattle.ccd3.specs.declared.Answer.{Answer}
 use Rattle.ccd3.specs.declared.Answer.the-variants.{Touching, Contact, Clear, Budget, Refused}

@@ -8,6 +8,8 @@ pub mod Standing
 pub mod Kept
 pub mod Promises
 pub mod Clauses
+pub mod Admitted
+mod Handed
 mod CrossPairs
 mod HalvingLoop
 mod WalkLoop

@@ -22,11 +22,13 @@ use lib.Pow.{pow-pos}
 use lib.Ieee.{Float, fin, binary32, up, down, neg, add, sub, mul, lt, ofBits}
 use lib.Ieee.Fits.{down-pos}
 use Rattle.number.specs.Number.{_⊕_, _⊖_, _⊗_, half32}
-use Rattle.number.proofs.Rounding.{rnd, Rep, rnd-mono, rnd-fix, rnd-rep}
-use Rattle.number.proofs.Units.{L, Is, Unit32, plus, left, right}
-use Rattle.number.proofs.Sums.{add-is, add-opens, sum-ff, sum-ft}
+use Rattle.number.proofs.Plus.{round-plus}
 use Rattle.number.proofs.Products.{mul-is, sum-mono, above-square, Root, root-above}
-use Rattle.number.proofs.Halvings.{round-plus}
+use Rattle.number.proofs.Rounding.{rnd, Rep, rnd-mono, rnd-fix, rnd-rep}
+use Rattle.number.proofs.Sums.{add-is}
+use Rattle.number.proofs.Sums.Rounded.{add-opens, sum-ff, sum-ft}
+use Rattle.number.proofs.Units.{Unit32, plus}
+use Rattle.number.proofs.Units.Compared.{L, Is, left, right}
 use Rattle.pair.specs.declared.record.Limits.{Limits}
 use Rattle.ccd3.specs.Step.{park, dip}
 

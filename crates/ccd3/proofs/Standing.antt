@@ -14,10 +14,12 @@ use lib.Ieee.Fits.{and-l, and-r, eq→eqb, mul-fits}
 use lib.Ieee.Scale.{finite}
 use Rattle.number.specs.Number.{_⊗_, zero32, one32}
 use Rattle.number.specs.Range.{zeroToOne}
-use Rattle.number.proofs.Units.{L, Is, Unit32, plus, lt-is, eq-is, le-says, says-le, says-lt, of-float, of-range, same-float}
-use Rattle.number.proofs.Within.{Within, within-finite, not-lt-le}
+use Rattle.number.proofs.Comparing.{not-lt-le}
 use Rattle.number.proofs.NoNan.{no-nan-le}
 use Rattle.number.proofs.Signs.{plus-up, square-plus}
+use Rattle.number.proofs.Units.{Unit32, plus, of-float, of-range, same-float}
+use Rattle.number.proofs.Units.Compared.{L, Is, lt-is, eq-is, le-says, says-le, says-lt}
+use Rattle.number.proofs.Within.{Within, within-finite}
 use Rattle.geometry.specs.Columns.{moved}
 use Rattle.distance.specs.Nearest.{nearestOf}
 use Rattle.pair.specs.declared.record.Limits.{Limits}

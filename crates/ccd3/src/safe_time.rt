@@ -1,7 +1,10 @@
 // The safe time of a pair (ccd3.rs: `maximum_safe_time_accurate`; docs/01-scope.md, "The walk").
 ghost use mathlib.Core.Path.{_≡_};
+ghost use Prim.Native.Nat.{ℕ, _≤_};
+ghost use lib.Ieee.{Float};
 ghost use Rattle.ccd3.specs.Walk.{told};
 ghost use Rattle.ccd3.specs.SafeTime as Def;
+ghost use Rattle.ccd3.specs.Promise.{Touched, Stopped, Passed, Paused};
 use crate::Answer;
 use crate::SafeTime;
 use crate::walk::walk;
@@ -44,6 +47,18 @@ pub fn maximum_safe_time_accurate(
     limits: Limits,
 ) -> SafeTime
     ensures answer { λ r. ⌜ r ≡ Def.safeTimeOf x0 dx split limits ⌝ }
+    ensures probes { λ r. ⌜ r .probes ≤ 4096 ⌝ }
+    ensures halvings { λ r. ⌜ r .halvings ≤ 256 ⌝ }
+    ensures touching { λ r. ⌜ ((t : Float) → r .answer ≡ Answer.Touching t → Touched x0 dx split limits t) ⌝ }
+    ensures contact { λ r. ⌜ ((t : Float) → r .answer ≡ Answer.Contact t → Stopped x0 dx split limits t) ⌝ }
+    ensures clear {
+        λ r. ⌜ ((t : Float) → r .answer ≡ Answer.Clear t
+            → Passed x0 dx split limits t (Def.safeWalk x0 dx split limits .probed)) ⌝
+    }
+    ensures budget { λ r. ⌜ ((t : Float) → r .answer ≡ Answer.Budget t → Paused x0 dx split limits t) ⌝ }
+    ensures refused {
+        λ r. ⌜ ((n : ℕ) → r .answer ≡ Answer.Refused n → (r .probes ≡ 0) × (r .halvings ≡ 0)) ⌝
+    }
 {
     let refusal = admit_walk(x0, dx, split, limits);
     if refusal == 0 {

@@ -5,3 +5,8 @@ pub mod Above
 pub mod EdgeChoice
 pub mod FaceChoice
 pub mod Split
+pub mod Alike
+pub mod Weights
+pub mod Ratios
+pub mod Listed
+pub mod Measured

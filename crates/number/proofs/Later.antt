@@ -88,7 +88,7 @@ add-round (fin false m e) (fin t n d) u v k p q =
         (none-le (m * up e * down d) (n * up d * down e) z)
         ∙ ap (λ (x : ℕ). round binary32 false x (down e * down d)) (no-take (m * up e * down d) (n * up d * down e) z)
 
-add-over : (x y : Float) (u v : ℕ) → T (plus x) → Is x u → Is y v → Top ≤ rnd (u + v) 1
+pub add-over : (x y : Float) (u v : ℕ) → T (plus x) → Is x u → Is y v → Top ≤ rnd (u + v) 1
     → add binary32 x y ≡ inf false
 add-over x y u v k p q h =
     let r = add-round x y u v k p q in

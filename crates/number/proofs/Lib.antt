@@ -1,4 +1,5 @@
--- The laws of f32 that the other crates cite.
+-- The laws of f32 that the other crates cite, from whole numbers up: rounding, units of 2 ^ -149, operations, patterns
+-- and neighbours, halvings, order, bounds, signs, then the helpers of this crate.
 pub mod Numbers
 pub mod Rounding
 pub mod Units
@@ -23,3 +24,6 @@ pub mod Ranges
 pub mod NextUp
 pub mod SquareRoot
 pub mod Corners
+pub mod Zeros
+pub mod Alike
+pub mod Unmoved

@@ -1,15 +1,21 @@
--- Where a value is no NaN: by a program's own tests, by a bit pattern, and where it was rounded. Assumes nothing.
-use mathlib.Core.Path.{_≡_, sym, _∙_, subst}
+-- Where a value is no NaN: by a program's own tests, by a bit pattern, where it was rounded, and a quotient.
+-- Assumes nothing.
+use mathlib.Core.Path.{_≡_, sym, _∙_, subst, ap}
 use mathlib.Core.Bool.{Bool, true, false, not, _&&_, true≢false, cond}
-use Prim.Native.Nat.{ℕ, _%_, _≤_, zero, suc, _*_, _^_}
-use lib.Dec.{T, ltb}
-use lib.Ieee.{Float, nan, inf, fin, binary32, binary64, ne, lt, le, fits, isNan, ofBits, round, units, odd}
+use Prim.Native.Nat.{ℕ, _%_, _≤_, zero, suc, _*_, _^_, _<_}
+use native.Mathlib.Omega.{arith}
+use lib.Dec.{T, ltb, eqb, ltb→lt, eqb→eq}
+use lib.Ieee.{Float, nan, inf, fin, binary32, binary64, ne, lt, le, fits, isNan, ofBits, round, units, odd, up, down}
+use lib.Ieee.{div, unlike}
 use lib.Ieee.Bits.{ofBits-fits, nanBits-is}
 use lib.Ieee.Compare.{nan-differs}
 use lib.Ieee.Fits.{and-i, and-l, fits-widens, round-is}
 use lib.Ieee.Order.{drop, kept}
+use lib.Ieee.Scale.{finite}
+use Rattle.number.specs.Number.{zero32}
 use Rattle.number.proofs.Patterns.{no-nan-bits}
 use Rattle.number.proofs.Units.{L}
+use Rattle.number.proofs.Numbers.{zero-size}
 
 -- the test x != x
 pub no-nan-ne : (x : Float) → ne x x ≡ false → T (not (isNan x))
@@ -65,3 +71,20 @@ pub round-no-nan : (s : Bool) (a c : ℕ) → T (not (isNan (round binary32 s a 
 round-no-nan s a c =
     subst (λ (z : Float). T (not (isNan z))) (sym (round-is binary32 s a c))
     (units-no-nan s (kept 24 (a * L) c) (drop 24 (a * L) c))
+
+-- ---- a quotient, where the divisor is finite and above zero
+pub div-no-nan : (x y : Float) → T (finite x) → T (finite y) → T (lt zero32 y) → T (not (isNan (div binary32 x y)))
+unfolding div lt ofBits
+div-no-nan (fin s m e) (fin true n d) f g h = absurd h
+div-no-nan (fin s m e) (fin false n d) f g h = go (eqb n 0) (eqb→eq n 0)
+  where
+    clash : (a : ℕ) (b : ℕ) → a < b → b ≡ 0 → ⊥
+    clash a b h e = omega arith
+
+    go : (b : Bool) → (T b → n ≡ 0)
+        → T (not (isNan (cond b (cond (eqb m 0) nan (inf (unlike s false)))
+        (round binary32 (unlike s false) (m * up e * down d) (n * up d * down e)))))
+    go true z =
+        absurd (clash (0 * down d) (n * up d * 1) (ltb→lt (0 * down d) (n * up d * 1) h)
+        (ap (λ (x : ℕ). x * up d * 1) (z tt) ∙ zero-size (up d) 1))
+    go false z = round-no-nan (unlike s false) (m * up e * down d) (n * up d * down e)

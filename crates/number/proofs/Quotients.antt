@@ -1,38 +1,16 @@
--- Quotients: no NaN by a divisor above zero, and how large they can be, by a divisor that is not too small or by 8.
--- Assumes nothing.
+-- How large a quotient can be, by a divisor that is not too small or by 8. Assumes nothing.
 use mathlib.Core.Path.{_≡_, sym, ap, _∙_, subst}
-use mathlib.Core.Bool.{Bool, true, false, not, cond}
+use mathlib.Core.Bool.{Bool, true, false, cond}
 use mathlib.Core.Logic.{inl, inr}
 use Prim.Native.Nat.{ℕ, _+_, _*_, _^_, _≤_, _<_}
 use native.Mathlib.Nat.{le-trans, le-of-eq, mul-one, mul-assoc, mul-comm, mul-pos, mul-le-mul, eq-zero-or-pos}
 use native.Mathlib.Omega.{arith}
-use lib.Dec.{T, eqb, ltb→lt, eqb→eq}
+use lib.Dec.{T, eqb, eqb→eq}
 use lib.Pow.{pow-add, pow-pos}
-use lib.Ieee.{Float, nan, inf, fin, binary32, up, down, round, div, lt, isNan, unlike, ofBits}
+use lib.Ieee.{Float, nan, inf, fin, binary32, up, down, round, div, unlike}
 use lib.Ieee.Fits.{down-pos, up-pos}
-use lib.Ieee.Scale.{finite}
 use lib.IntN.{pos}
-use Rattle.number.specs.Number.{zero32}
 use Rattle.number.proofs.Within.{Within, round-within}
-use Rattle.number.proofs.NoNan.{round-no-nan}
-use Rattle.number.proofs.Numbers.{zero-size}
-
--- ---- no NaN
-pub div-no-nan : (x y : Float) → T (finite x) → T (finite y) → T (lt zero32 y) → T (not (isNan (div binary32 x y)))
-unfolding div lt ofBits
-div-no-nan (fin s m e) (fin true n d) f g h = absurd h
-div-no-nan (fin s m e) (fin false n d) f g h = go (eqb n 0) (eqb→eq n 0)
-  where
-    clash : (a : ℕ) (b : ℕ) → a < b → b ≡ 0 → ⊥
-    clash a b h e = omega arith
-
-    go : (b : Bool) → (T b → n ≡ 0)
-        → T (not (isNan (cond b (cond (eqb m 0) nan (inf (unlike s false)))
-        (round binary32 (unlike s false) (m * up e * down d) (n * up d * down e)))))
-    go true z =
-        absurd (clash (0 * down d) (n * up d * 1) (ltb→lt (0 * down d) (n * up d * 1) h)
-        (ap (λ (x : ℕ). x * up d * 1) (z tt) ∙ zero-size (up d) 1))
-    go false z = round-no-nan (unlike s false) (m * up e * down d) (n * up d * down e)
 
 -- ---- a quotient by what is 2 ^ -b at least
 abbrev pub AtLeast : ℕ → Float → Type 0

@@ -7,3 +7,4 @@ pub mod Argument
 pub mod Found
 pub mod Theorem
 pub mod Bounds
+pub mod Answer

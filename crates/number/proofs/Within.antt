@@ -15,7 +15,7 @@ use lib.Ieee.Exact.{HasValue}
 use lib.Ieee.Scale.{finite}
 pub use Rattle.number.proofs.Comparing.{or-l, or-r, not-lt-le}
 pub use Rattle.number.proofs.Choice.{clamp-in}
-pub use Rattle.number.proofs.NoNan.{round-no-nan}
+pub use Rattle.number.proofs.NoNan.{round-no-nan, div-no-nan}
 use Rattle.number.proofs.Rounding.{rnd, Rep, rnd-mono, rnd-fix}
 use Rattle.number.proofs.Units.{L, Top, Is, size-is}
 use Rattle.number.proofs.Sums.{round-at}

@@ -44,6 +44,18 @@ unfoldable pub rootOf : Float → Float
 unfolding reaches last
 rootOf x = cond (lt zero32 x && isFinite x) (ofBits binary32 (last (reaches x) 31 0)) zero32
 
--- what the square root answers: refusal 1 for NaN or an infinity, else 2 below zero, else the root
+-- the refusal number of an argument, 0 for none: 1 for NaN or an infinity, else 2 below zero
+unfoldable pub rootRefusal : Float → ℕ
+rootRefusal x = cond (isFinite x) (cond (lt x zero32) 2 0) 1
+
+-- what the square root answers; an answer's refusal number, 0 for none; its root, plus zero where refused
 unfoldable pub squareRoot : Float → Rooted
 squareRoot x = cond (isFinite x) (cond (lt x zero32) (Refused 2) (Root (rootOf x))) (Refused 1)
+
+unfoldable pub refusalOf : Rooted → ℕ
+refusalOf (Root r) = 0
+refusalOf (Refused n) = n
+
+unfoldable pub valueOf : Rooted → Float
+valueOf (Root r) = r
+valueOf (Refused n) = zero32

@@ -93,7 +93,9 @@ pub fn root(x: f32) -> f32
 
 // The square root with its refusals: 1 for NaN or an infinity, 2 below zero.
 pub fn square_root(x: f32) -> Rooted
-    ensures { λ r. ⌜ r ≡ Def.squareRoot x ⌝ }
+    ensures answer { λ r. ⌜ r ≡ Def.squareRoot x ⌝ }
+    ensures refusal { λ r. ⌜ Def.refusalOf r ≡ Def.rootRefusal x ⌝ }
+    ensures value { λ r. ⌜ Def.valueOf r ≡ Def.rootOf x ⌝ }
 {
     if range::is_finite(x) {
         if x < 0.0 {

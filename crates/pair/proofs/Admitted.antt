@@ -11,12 +11,12 @@ use lib.Ieee.{Float}
 use lib.Ieee.Fits.{and-i, and-l, and-r}
 use Rattle.number.specs.Range.{isFinite, inLimit, zeroToLimit, zeroToOne, speedRange}
 use Rattle.number.proofs.Within.{Within}
+use Rattle.number.proofs.Ranges.{in-limit}
 use Rattle.geometry.specs.Vec3.{at, col}
 use Rattle.pair.specs.declared.record.Limits.{Limits}
 use Rattle.pair.specs.Admission.{refusal, ofThree, ofTwelve, finitePoints, limitPoints, isSplit, rangedLimits}
 use Rattle.pair.specs.Admission.{finiteWalk, rangedWalk, walkRefusal}
 use Rattle.pair.specs.Admission.{pointsRefusal, splitRefusal, factorRefusal, timeRefusal, ratioRefusal}
-use Rattle.pair.proofs.Ranges.{limit-within}
 
 -- ---- the three numbers of a verdict
 pub refusal-none : (finite ranged : Bool) → refusal finite ranged ≡ 0 → T finite × T ranged
@@ -75,7 +75,7 @@ module _ (test : Float → Bool) where
 pub points-within : (x : List (List Float)) → T (limitPoints x)
     → (i j : ℕ) → i < 4 → j < 3 → Within 20 (at (col x i) j)
 unfolding limitPoints
-points-within x h i j k l = limit-within (at (col x i) j) (twelve-each inLimit x h i j k l)
+points-within x h i j k l = in-limit (at (col x i) j) (twelve-each inLimit x h i j k l)
 
 -- ---- the split
 pub split-parts : (split : ℕ) → T (isSplit split) → (split ≡ 2) ⊎ (split ≡ 3)

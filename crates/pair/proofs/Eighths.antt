@@ -15,7 +15,7 @@ use Rattle.number.specs.Number.{_⊗_, _⊘_, one32}
 use Rattle.number.specs.Range.{isFinite}
 use Rattle.number.proofs.Units.{fit}
 use Rattle.number.proofs.Within.{Within}
-use Rattle.number.proofs.Signs.{eighth-within}
+use Rattle.number.proofs.Quotients.{eighth-within}
 use Rattle.pair.specs.declared.factors.Factors.{Factors}
 use Rattle.pair.specs.Factors.{eight32, ending, eighths, factorsOf}
 

@@ -11,15 +11,16 @@ use mathlib.Core.Bool.{Bool, true, false, not}
 use lib.Dec.{T, lit<, lit≤}
 use lib.IntN.{pos}
 use lib.Pow.{pow-add, pow-pos, pow-mono, pow-lt, shl-lt}
-use lib.Ieee.{Float, nan, inf, fin, binary32, up, down, round, div, lt, le, eq, fits, ofBits}
+use lib.Ieee.{Float, nan, inf, fin, binary32, up, down, round, div, lt, fits, ofBits}
 use lib.Ieee.Fits.{mul-fits, down-pos}
 use Rattle.number.specs.Number.{_⊗_, _⊘_, zero32, one32}
 use Rattle.number.specs.Range.{isFinite}
 use Rattle.number.proofs.Rounding.{rnd, Rep, rnd-fix}
-use Rattle.number.proofs.Units.{L, Top, Is, plus, of-float, lt-says, same-float}
-use Rattle.number.proofs.Sums.{round-at, to-is, round-units}
+use Rattle.number.proofs.Units.{Top, plus, of-float, same-float}
+use Rattle.number.proofs.Units.Compared.{L, Is, lt-says}
+use Rattle.number.proofs.Sums.Rounded.{round-at, to-is, round-units}
 use Rattle.number.proofs.Products.{mul-is}
-use Rattle.number.proofs.Within.{or-l}
+use Rattle.number.proofs.Comparing.{lt-le}
 use Rattle.number.proofs.Finite.{is-finite}
 use Rattle.pair.specs.declared.factors.Factors.{Factors}
 use Rattle.pair.specs.Factors.{eight32, ending, eighths, factorsOf}
@@ -176,9 +177,9 @@ unfolding ofBits
 zero-is = refl
 
 pub product-exact : (f : Float) → T (fits binary32 f) → T (isFinite f) → T (lt zero32 f) → factorsOf f .product ≡ f
-unfolding factorsOf le
+unfolding factorsOf
 product-exact f h k a =
-    let d = of-float f h (subst T (is-finite f) k) (or-l (lt zero32 f) (eq zero32 f) a) in
+    let d = of-float f h (subst T (is-finite f) k) (lt-le zero32 f a) in
     let u = d .0 in
     let some = lt-says zero32 f 0 u zero-is (d .1 .is) a in
     let whole : Whole u 0 f one32 =

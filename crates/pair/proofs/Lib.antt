@@ -1,5 +1,4 @@
 -- Laws that other crates cite, and helpers of this one. Assumes nothing.
-pub mod Ranges
 pub mod Admitted
 pub mod Norms
 pub mod StayFinite

@@ -17,6 +17,7 @@ use Rattle.number.proofs.Units.{plus}
 use Rattle.number.proofs.Within.{Within, within-finite, sub-within, dot-within}
 use Rattle.number.proofs.Finite.{is-finite}
 use Rattle.number.proofs.Signs.{plus-up}
+use Rattle.number.proofs.Choice.{larger-keeps}
 use Rattle.number.proofs.SquareRoot.Theorem.{root-from}
 use Rattle.number.proofs.SquareRoot.Bounds.{root-within}
 use Rattle.geometry.specs.Vec3.{at, col, minus}
@@ -28,15 +29,6 @@ use Rattle.pair.specs.Points.{admitted}
 use Rattle.pair.specs.Norm.{gapSquare, against, largestSquare, normOf, normed, refusalOf, valueOf}
 use Rattle.pair.proofs.Admitted.{points-within, split-admits}
 use Rattle.pair.proofs.Counting.{fold-keeps}
-
--- what two numbers have in common, the larger has
-larger-keeps : (P : Float → Type 0) (a b : Float) → P a → P b → P (larger a b)
-unfolding larger
-larger-keeps P a b p q = go (lt a b)
-  where
-    go : (t : Bool) → P (cond t b a)
-    go true = q
-    go false = p
 
 -- what zero has and every cross pair's square, the largest square has
 square-keeps : (P : Float → Type 0) (x : List (List Float)) (split : ℕ) → P zero32

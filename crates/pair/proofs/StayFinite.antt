@@ -11,6 +11,7 @@ use Rattle.number.specs.Number.{_⊕_, _⊖_, _⊗_, zero32}
 use Rattle.number.specs.Range.{isFinite, inLimit}
 use Rattle.number.proofs.Within.{Within, within-finite, within-more, add-within, sub-within, mul-within}
 use Rattle.number.proofs.Finite.{is-finite}
+use Rattle.number.proofs.Ranges.{in-limit, zero-to-limit, zero-to-one}
 use Rattle.geometry.specs.Vec3.{at, col, vec}
 use Rattle.geometry.specs.Edge3.{lerpOf}
 use Rattle.geometry.specs.Columns.{mean, moved, centred, scaled}
@@ -18,7 +19,6 @@ use Rattle.pair.specs.declared.points.Placed.{Placed}
 use Rattle.pair.specs.Admission.{ofThree, ofTwelve, finitePoints, limitPoints}
 use Rattle.pair.specs.Admission.{pointsRefusal, factorRefusal, timeRefusal, ratioRefusal}
 use Rattle.pair.specs.Points.{admitted, placed, movedInto, centredIn, scaledIn}
-use Rattle.pair.proofs.Ranges.{limit-within, zero-limit-within, zero-one-within}
 use Rattle.pair.proofs.Admitted.{three-each, points-within}
 use Rattle.pair.proofs.Admitted.{points-admits, factor-admits, time-admits, ratio-admits}
 use Rattle.pair.proofs.Taken.{taken}
@@ -61,13 +61,13 @@ pub place-finite : (p q : List Float) (s : Float) → ratioRefusal p q s ≡ 0 �
 unfolding placed
 place-finite p q s e =
     let h = ratio-admits p q s e in
-    let in-p : (j : ℕ) → j < 3 → Within 20 (at p j) = λ j l. limit-within (at p j) (three-each inLimit p (h .0) j l) in
-    let in-q : (j : ℕ) → j < 3 → Within 20 (at q j) = λ j l. limit-within (at q j) (three-each inLimit q (h .1) j l) in
+    let in-p : (j : ℕ) → j < 3 → Within 20 (at p j) = λ j l. in-limit (at p j) (three-each inLimit p (h .0) j l) in
+    let in-q : (j : ℕ) → j < 3 → Within 20 (at q j) = λ j l. in-limit (at q j) (three-each inLimit q (h .1) j l) in
     given (λ (y : List Float). T (ofThree isFinite y)) (ratioRefusal p q s) (lerpOf p q s) (vec zero32 zero32 zero32) e
     (three 22 (λ j. at p j ⊕ s ⊗ (at q j ⊖ at p j))
     (λ j l. add-within 21 (at p j) (s ⊗ (at q j ⊖ at p j)) (lit≤ tt)
     (within-more 20 21 (at p j) (lit≤ tt) (in-p j l))
-    (mul-within 0 21 s (at q j ⊖ at p j) (lit≤ tt) (zero-one-within s (h .2))
+    (mul-within 0 21 s (at q j ⊖ at p j) (lit≤ tt) (zero-to-one s (h .2) .2)
     (sub-within 20 (at q j) (at p j) (lit≤ tt) (in-q j l) (in-p j l)))))
 
 -- ---- four points
@@ -79,7 +79,7 @@ moved-finite x dx t was e =
     given (λ (y : List (List Float)). T (ofTwelve isFinite y)) (timeRefusal x dx t) (moved x dx t) was e
     (twelve 21 (λ i j. at (col x i) j ⊕ t ⊗ at (col dx i) j)
     (λ i j k l. add-within 20 (at (col x i) j) (t ⊗ at (col dx i) j) (lit≤ tt) (points-within x (h .0) i j k l)
-    (mul-within 0 20 t (at (col dx i) j) (lit≤ tt) (zero-one-within t (h .2)) (points-within dx (h .1) i j k l))))
+    (mul-within 0 20 t (at (col dx i) j) (lit≤ tt) (zero-to-one t (h .2) .2) (points-within dx (h .1) i j k l))))
 
 pub scaled-finite : (x : List (List Float)) (s : Float) → factorRefusal x s ≡ 0 → T (finitePoints (scaledIn x s))
 unfolding scaledIn finitePoints
@@ -88,7 +88,7 @@ scaled-finite x s e =
     given (λ (y : List (List Float)). T (ofTwelve isFinite y)) (factorRefusal x s) (scaled x s) x e
     (twelve 40 (λ i j. at (col x i) j ⊗ s)
     (λ i j k l. mul-within 20 20 (at (col x i) j) s (lit≤ tt) (points-within x (h .0) i j k l)
-    (zero-limit-within s (h .1))))
+    (zero-to-limit s (h .1) .1)))
 
 -- the centre is within 2 ^ 23
 mean-within : (x : List (List Float)) → T (limitPoints x) → (j : ℕ) → j < 3 → Within 23 (mean x j)

@@ -3,5 +3,6 @@ pub mod Count
 pub mod Admission
 pub mod Points
 pub mod Norm
+pub mod Separation
 pub mod Factors
 pub mod Scaling

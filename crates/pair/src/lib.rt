@@ -11,8 +11,9 @@ pub mod admission;
 // A place along a segment; moved, centred, scaled points.
 pub mod points;
 
-// The largest distance between the sides.
+// The largest distance between points of the two sides, and the distance of the sides.
 pub mod norm;
+pub mod separation;
 
 // Scaling.
 mod factors;

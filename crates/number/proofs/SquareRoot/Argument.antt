@@ -1,9 +1,9 @@
 -- The argument of the square root by its pattern: which patterns are above zero, what the definition answers
--- elsewhere, and the number of 24 digits whose root is taken, for a normal and for a subnormal argument. Assumes
--- nothing.
+-- elsewhere, and the number of 24 digits whose root is taken, of a normal and of a subnormal argument.
+-- Assumes nothing.
 use mathlib.Core.Path.{_≡_, refl, sym, ap, _∙_, subst}
 use mathlib.Core.Logic.{inl, inr}
-use mathlib.Core.Bool.{Bool, false, cond, _&&_}
+use mathlib.Core.Bool.{Bool, true, false, cond, _&&_, true≢false}
 use Prim.Native.Nat.{ℕ, suc, _+_, _-_, _*_, _/_, _%_, _^_, _≤_, _<_}
 use native.Mathlib.Nat.{le-trans, le-of-eq, le-of-lt, le-refl, lt-of-lt-of-le, lt-of-not-le, lt-irrefl}
 use native.Mathlib.Nat.{eq-zero-or-pos, mul-assoc, mul-one, mul-le-mul-right}
@@ -12,7 +12,7 @@ use lib.Dec.{T, ltb→lt}
 use lib.IntN.{ℤ}
 use lib.Pow.{pow-add, pow-mono, shl-lt, shl-exact}
 use lib.Count.{leadingZeros, leading-top}
-use lib.Ieee.{Float, inf, fin, binary32, up, down, lt, fits, ofBits, toBits}
+use lib.Ieee.{Float, nan, inf, fin, binary32, up, down, lt, fits, ofBits, toBits}
 use lib.Ieee.Bits.{ofBits-toBits}
 use Rattle.number.specs.Number.{zero32}
 use Rattle.number.specs.Range.{isFinite}
@@ -28,9 +28,30 @@ unfolding rootOf
 not-above x h =
     sym (ap (λ (c : Bool). cond (c && isFinite x) (ofBits binary32 (last (reaches x) 31 0)) zero32) h)
 
-infinite : zero32 ≡ rootOf (inf false)
-unfolding rootOf lt isFinite ofBits
-infinite = refl
+pub not-finite : (x : Float) → isFinite x ≡ false → zero32 ≡ rootOf x
+unfolding rootOf
+not-finite x h =
+    sym (ap (λ (c : Bool). cond (lt zero32 x && c) (ofBits binary32 (last (reaches x) 31 0)) zero32) h
+    ∙ none (lt zero32 x))
+  where
+    none : (a : Bool) → cond (a && false) (ofBits binary32 (last (reaches x) 31 0)) zero32 ≡ zero32
+    none true = refl
+    none false = refl
+
+below-not-above : (x : Float) → lt x zero32 ≡ true → lt zero32 x ≡ false
+unfolding lt ofBits
+below-not-above nan h = refl
+below-not-above (inf true) h = refl
+below-not-above (inf false) h = absurd (true≢false (sym h))
+below-not-above (fin true m e) h = refl
+below-not-above (fin false m e) h =
+    absurd (none (m * up e) (down e) (ltb→lt (m * up e * 1) (0 * 1 * down e) (subst T (sym h) tt)))
+  where
+    none : (k d : ℕ) → k * 1 < 0 * 1 * d → ⊥
+    none k d h = omega arith
+
+pub below : (x : Float) → lt x zero32 ≡ true → zero32 ≡ rootOf x
+below x h = not-above x (below-not-above x h)
 
 -- ---- the patterns of numbers above zero
 zero-not-above : (e : ℤ) → T (lt zero32 (fin false 0 e)) → ⊥
@@ -59,13 +80,17 @@ module _ (x : Float) (f : T (fits binary32 x)) (a : T (lt zero32 x)) where
     | inr l ↦ l
   ]
 
+  inf-not : isFinite (inf false) ≡ false
+  unfolding isFinite
+  inf-not = refl
+
   -- the field of ones is the infinity's
   pub at-top : 255 ≤ b / 8388608 → zero32 ≡ rootOf x
   unfolding ofBits
   at-top h =
       let l = above-bits x f a in
       let e : b ≡ 2139095040 = omega arith in
-      infinite ∙ ap rootOf (sym (ap (ofBits binary32) e) ∙ own)
+      not-finite (inf false) inf-not ∙ ap rootOf (sym (ap (ofBits binary32) e) ∙ own)
 
   pub finite-bits : b < 2139095040 → T (isFinite x)
   unfolding isFinite

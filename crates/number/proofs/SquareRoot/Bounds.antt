@@ -1,7 +1,7 @@
 -- What a caller wants of the root of a positive finite x: it is an f32 of sign plus, above zero, a whole number of
 -- units nearest to the exact root (`Root` of Products), and of half the exponent's bound. Assumes nothing.
 use mathlib.Core.Path.{_≡_, refl, sym, ap, _∙_, subst}
-use mathlib.Core.Bool.{Bool, true, false, _&&_}
+use mathlib.Core.Bool.{Bool, true, false}
 use Prim.Native.Nat.{ℕ, _+_, _*_, _/_, _^_, _≤_, _<_, zero-le}
 use native.Mathlib.Nat.{le-trans, le-of-eq, le-of-lt, lt-of-lt-of-le, lt-of-le-of-lt, not-le-of-lt, mul-comm, mul-one}
 use native.Mathlib.Nat.{one-mul, mul-assoc, mul-mul-mul-comm, mul-pos, mul-le-mul-right, mul-le-mul-left}
@@ -10,10 +10,9 @@ use lib.Dec.{T, lt→ltb, lit<}
 use lib.Pow.{pow-add, pow-pos, pow-mono, pow-lt, shl-lt}
 use lib.Ieee.{Float, fin, binary32, lt, fits, ofBits}
 use lib.Ieee.Bits.{ofBits-fits}
-use lib.Ieee.Fits.{cond-fits}
 use Rattle.number.specs.Number.{zero32}
 use Rattle.number.specs.Range.{isFinite}
-use Rattle.number.specs.Root.{count, twiceRootSquared, reaches, last, rootOf}
+use Rattle.number.specs.Root.{count, twiceRootSquared, rootOf}
 use Rattle.number.specs.RootDigits.{wholeOf}
 use Rattle.number.proofs.Numbers.{le-of-not-lt, square-back}
 use Rattle.number.proofs.Units.{L, Top, Is, Unit32, plus, zero-is, says-lt}
@@ -24,16 +23,24 @@ use Rattle.number.proofs.Neighbours.{after}
 use Rattle.number.proofs.Patterns.{val, bits-are}
 use Rattle.number.proofs.SquareRoot.Nearest.{count-is}
 use Rattle.number.proofs.SquareRoot.Bits.{val-is, whole-scale}
-use Rattle.number.proofs.SquareRoot.Argument.{not-above}
+use Rattle.number.proofs.SquareRoot.Argument.{not-above, not-finite}
 use Rattle.number.proofs.SquareRoot.Found.{Found, found}
+use Rattle.number.proofs.SquareRoot.Theorem.{FromZero}
 use Rattle.number.proofs.SquareRoot.Theorem as theorem
 
 -- ---- of every x
-pub root-fits : (x : Float) → T (fits binary32 (rootOf x))
-unfolding rootOf
-root-fits x =
-    cond-fits binary32 (lt zero32 x && isFinite x) (ofBits binary32 (last (reaches x) 31 0)) zero32
-    (ofBits-fits binary32 (last (reaches x) 31 0)) (ofBits-fits binary32 0)
+zero-from : FromZero zero32
+unfolding ofBits isFinite
+zero-from = record { fit = ofBits-fits binary32 0; sign = tt; real = tt }
+
+-- a root is an f32 from zero up
+pub root-from-zero : (x : Float) → T (fits binary32 x) → FromZero (rootOf x)
+root-from-zero x f = go (lt zero32 x) (isFinite x) refl refl
+  where
+    go : (a b : Bool) → lt zero32 x ≡ a → isFinite x ≡ b → FromZero (rootOf x)
+    go true true p q = theorem.root-from x f (subst T (sym p) tt) (subst T (sym q) tt)
+    go true false p q = subst FromZero (not-finite x q) zero-from
+    go false b p q = subst FromZero (not-above x p) zero-from
 
 -- ---- of a positive finite x, which is u units
 pub record RootUnits (x : Float) (u : ℕ) : Type 0 where
@@ -107,7 +114,7 @@ power-fits a l = lt→ltb (1 * 2 ^ a) (2 ^ 128 * 1) (lt-of-le-of-lt (le-of-eq (o
     room : (a : ℕ) → a ≤ 127 → a < 128
     room a l = omega arith
 
-power-from : (a : ℕ) → a ≤ 127 → theorem.FromZero (power a)
+power-from : (a : ℕ) → a ≤ 127 → FromZero (power a)
 unfolding isFinite
 power-from a l = record { fit = power-fits a l; sign = tt; real = tt }
 

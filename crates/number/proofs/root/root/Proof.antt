@@ -1,5 +1,5 @@
--- `number::root::root` meets its contract: by the exponent's field, a subnormal argument raised first. Assumes
--- nothing.
+-- `number::root::root` meets its contract: by the exponent's field, a subnormal argument raised first.
+-- Assumes nothing.
 use mathlib.Core.Path.{_≡_, sym, subst}
 use Prim.Native.Nat.{ℕ, _+_, _-_, _*_, _/_, _%_, _^_, _<_}
 use native.Mathlib.Omega.{arith}

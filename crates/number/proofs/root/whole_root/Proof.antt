@@ -1,6 +1,5 @@
--- `number::root::whole_root` meets its contract. The first loop brings the guess down to where its square is not
--- above n (measure: the guess); the second keeps n split into a square and a rest (measure: the rest). Assumes
--- nothing.
+-- `number::root::whole_root` meets its contract. The first loop brings the guess down to where its square is not above
+-- n (measure: the guess); the second keeps n split into a square and a rest (measure: the rest). Assumes nothing.
 use mathlib.Core.Path.{_≡_}
 use Prim.Native.Nat.{_+_, _*_, _^_, _<_}
 use native.Mathlib.Omega.{arith}

@@ -1,0 +1,2 @@
+-- The laws of vectors and points that the other crates cite.
+pub mod Bounds
