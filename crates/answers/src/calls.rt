@@ -12,6 +12,7 @@ pub fn answer(function: u32, call: &[u8], out: &mut [u8]) {
         3 => points::add_scaled(call, out),
         4 => points::centerize(call, out),
         5 => points::scale_in_place(call, out),
+        6 => points::squared_distance(call, out),
         7 => points::max_relative_norm(call, out),
         8 => scaling::normalize(call, out),
         9 => roots::quadratic_root(call, out),

@@ -1,8 +1,9 @@
-// Calls on points: `lerp`, `add_scaled`, `centerize`, `scale_in_place`, `max_relative_norm`.
+// Calls on points: `lerp`, `add_scaled`, `centerize`, `scale_in_place`, `squared_distance`, `max_relative_norm`.
 use crate::words;
 use pair::norm;
 use pair::norm::Normed;
 use pair::points;
+use pair::separation;
 
 pub fn lerp(call: &[u8], out: &mut [u8]) {
     let placed = points::lerp(
@@ -44,6 +45,15 @@ pub fn scale_in_place(call: &[u8], out: &mut [u8]) {
     let refusal = points::scale_in_place(&mut x, words::number(call, 52));
     words::put(out, 0, refusal);
     words::put_points(out, 4, x);
+}
+
+pub fn squared_distance(call: &[u8], out: &mut [u8]) {
+    let measured = separation::squared_distance(words::points(call, 4), words::split(call, 52));
+    let direction = measured.direction;
+    words::put(out, 0, measured.refusal);
+    words::put_number(out, 4, measured.squared);
+    words::put_point(out, 8, direction);
+    words::put(out, 20, measured.candidate);
 }
 
 pub fn max_relative_norm(call: &[u8], out: &mut [u8]) {
