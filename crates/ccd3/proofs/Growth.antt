@@ -21,9 +21,9 @@ use Rattle.number.proofs.Signs.{plus-up, square-plus, sum-plus, product-plus, q
 use Rattle.number.proofs.SquareRoot.Bounds.{RootUnits, root-facts, root-within}
 use Rattle.number.proofs.Units.{Unit32, plus, of-float}
 use Rattle.number.proofs.Units.Compared.{L, Is, lt-says, says-lt, le-says}
+use Rattle.number.proofs.Ranges.{zero-to-limit, speed-range}
 use Rattle.number.proofs.Within.{Within, within-finite, within-more, add-within, sub-within, mul-within}
 use Rattle.pair.specs.declared.record.Limits.{Limits}
-use Rattle.pair.proofs.Ranges.{zero-limit-within}
 use Rattle.ccd3.specs.declared.Aim.{Aim}
 use Rattle.ccd3.specs.Directional.{Cross, crossPairs, lessened, projected, rate, leastOver, directional, largest}
 use Rattle.ccd3.specs.Step.{park, dip, plain, aim, Visit, step, next}
@@ -103,49 +103,17 @@ limit-is = refl
 -- a number from 0 to 2 ^ 20, in units
 limited : (x : Float) → T (fits binary32 x) → T (zeroToLimit x) → (u : ℕ) × Unit32 x u × (u ≤ Most)
 limited x f h =
-    let i = of-float x f (within-finite 20 x (zero-limit-within x h)) (from-zero x h) in
+    let i = of-float x f (within-finite 20 x (zero-to-limit x h .1)) (from-zero x h) in
     (i .0, i .1, le-says x limit (i .0) Most (i .1 .is) limit-is (and-r (le zero32 x) (le x limit) h))
 
--- a speed of 2 ^ -60 at least
-speed-least : (u : Float) → T (speedRange u) → AtLeast 60 u × T (positive u)
-unfolding le ofBits
-speed-least u h = go u (and-l (le leastSpeed u) (le u mostSpeed) h) (and-r (le leastSpeed u) (le u mostSpeed) h)
+positive-of : (u : Float) → T (lt zero32 u) → T (finite u) → T (positive u)
+unfolding lt ofBits
+positive-of (fin false n d) h f = lt→ltb 0 n (some n (up d) (down d) (ltb→lt (0 * 1 * down d) (n * up d * 1) h))
   where
-    some : (a b c : ℕ) → 0 < a → a ≤ b * c → 0 < b
-    some a zero c h k = omega arith
-    some a (suc b) c h k = omega arith
-
-    at-least : (a b : ℕ) (s t : Bool) → (T s → a < b) → (T t → a ≡ b) → T (s || (t && true)) → a ≤ b
-    at-least a b true t f g h = le-of-lt (f tt)
-    at-least a b false true f g h = le-of-eq (g tt)
-    at-least a b false false f g h = absurd h
-
-    below : (a : ℕ) → 0 < a → 0 < 1 * 1 * a
-    below a h = omega arith
-
-    plain-le : (a b : ℕ) → 1 * 1 * a ≤ b → a ≤ b
-    plain-le a b h = omega arith
-
-    spread : (a n u p : ℕ) → 1 * 1 * a ≤ n * u * p → a ≤ n * (u * p)
-    spread a n u p h = le-trans (plain-le a (n * u * p) h) (le-of-eq (mul-assoc n u p))
-
-    none : (a : ℕ) (s t : Bool) → 0 < a → (T t → a ≡ 0) → T (s && t) → ⊥
-    none a true true p g h = omega (arith, g tt)
-
-    go : (u : Float) → T (le leastSpeed u) → T (le u mostSpeed) → AtLeast 60 u × T (positive u)
-    go nan a b = absurd a
-    go (inf true) a b = absurd a
-    go (inf false) a b = absurd b
-    go (fin true n d) a b =
-        let l = 1 * 1 * down d in
-        absurd (none l (eqb l (n * up d * 2 ^ 60)) (eqb l 0) (below (down d) (down-pos d)) (eqb→eq l 0) a)
-    go (fin false n d) a b =
-        let l = 1 * 1 * down d in
-        let r = n * up d * 2 ^ 60 in
-        let k : l ≤ r = at-least l r (ltb l r) (eqb l r) (ltb→lt l r) (eqb→eq l r) a in (
-          plain-le (down d) r k,
-          lt→ltb 0 n (some (down d) n (up d * 2 ^ 60) (down-pos d) (spread (down d) n (up d) (2 ^ 60) k)),
-        )
+    some : (n u d : ℕ) → 0 * 1 * d < n * u * 1 → 0 < n
+    some zero u d h = omega arith
+    some (suc n) u d h = omega arith
+positive-of (fin true n d) h f = absurd h
 
 one-facts : Within 0 one32 × T (plus one32)
 unfolding ofBits
@@ -153,9 +121,10 @@ one-facts = (lit≤ tt, tt)
 
 inverse-sound : (u : Float) → T (speedRange u) → Within 60 (one32 ⊘ u) × T (plus (one32 ⊘ u))
 inverse-sound u h =
-    let s = speed-least u h in (
-      div-within 0 60 one32 u (lit≤ tt) (one-facts .0) (s .0),
-      quotient-plus one32 u (within-finite 0 one32 (one-facts .0)) (s .1) (one-facts .1),
+    let s = speed-range u h in (
+      div-within 0 60 one32 u (lit≤ tt) (one-facts .0) (s .1),
+      quotient-plus one32 u (within-finite 0 one32 (one-facts .0)) (positive-of u (s .0) (within-finite 60 u (s .2)))
+          (one-facts .1),
     )
 
 half-within : Within 0 half32
@@ -173,13 +142,13 @@ pub record Given (l : Limits) : Type 0 where
 module _ (l : Limits) (g : Given l) where
   dip-within : Within 21 (dip l)
   dip-within =
-      add-within 20 (l .offset) (l .clearance ⊗ half32) (lit≤ tt) (zero-limit-within (l .offset) (g .offset-in))
-      (mul-within 20 0 (l .clearance) half32 (lit≤ tt) (zero-limit-within (l .clearance) (g .clearance-in)) half-within)
+      add-within 20 (l .offset) (l .clearance ⊗ half32) (lit≤ tt) (zero-to-limit (l .offset) (g .offset-in) .1)
+      (mul-within 20 0 (l .clearance) half32 (lit≤ tt) (zero-to-limit (l .clearance) (g .clearance-in) .1) half-within)
 
   park-within : Within 21 (park l)
   park-within =
-      add-within 20 (l .offset) (l .clearance) (lit≤ tt) (zero-limit-within (l .offset) (g .offset-in))
-      (zero-limit-within (l .clearance) (g .clearance-in))
+      add-within 20 (l .offset) (l .clearance) (lit≤ tt) (zero-to-limit (l .offset) (g .offset-in) .1)
+      (zero-to-limit (l .clearance) (g .clearance-in) .1)
 
   pub squared-park : (u : ℕ) × Unit32 (park l ⊗ park l) u
   squared-park =

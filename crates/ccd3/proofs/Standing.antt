@@ -19,11 +19,11 @@ use Rattle.number.proofs.NoNan.{no-nan-le}
 use Rattle.number.proofs.Signs.{plus-up, square-plus}
 use Rattle.number.proofs.Units.{Unit32, plus, of-float, of-range, same-float}
 use Rattle.number.proofs.Units.Compared.{L, Is, lt-is, eq-is, le-says, says-le, says-lt}
+use Rattle.number.proofs.Ranges.{zero-to-one}
 use Rattle.number.proofs.Within.{Within, within-finite}
 use Rattle.geometry.specs.Columns.{moved}
 use Rattle.distance.specs.Nearest.{nearestOf}
 use Rattle.pair.specs.declared.record.Limits.{Limits}
-use Rattle.pair.proofs.Ranges.{zero-one-within}
 use Rattle.ccd3.specs.Step.{park, Visit, next}
 use Rattle.ccd3.specs.Walk.{squaredAt, above, start, visit}
 use Rattle.ccd3.specs.SafeTime.{squaredPark, squaredOffset, firstSquared, touches}
@@ -78,7 +78,7 @@ module _ (x₀ dx : List (List Float)) (split : ℕ) (l : Limits) (g : Ground x�
 
   pub limit-units : (u : ℕ) × Unit32 (l .«max_t») u
   limit-units =
-      of-float (l .«max_t») (g .limit-fits) (within-finite 0 (l .«max_t») (zero-one-within (l .«max_t») (g .limit-in)))
+      of-float (l .«max_t») (g .limit-fits) (within-finite 0 (l .«max_t») (zero-to-one (l .«max_t») (g .limit-in) .2))
       limit-from
 
   under-one : (t : Float) (u : ℕ) → Is t u → T (le t (l .«max_t»)) → T (le t one32)

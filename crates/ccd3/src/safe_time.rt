@@ -51,14 +51,10 @@ pub fn maximum_safe_time_accurate(
     ensures halvings { λ r. ⌜ r .halvings ≤ 256 ⌝ }
     ensures touching { λ r. ⌜ ((t : Float) → r .answer ≡ Answer.Touching t → Touched x0 dx split limits t) ⌝ }
     ensures contact { λ r. ⌜ ((t : Float) → r .answer ≡ Answer.Contact t → Stopped x0 dx split limits t) ⌝ }
-    ensures clear {
-        λ r. ⌜ ((t : Float) → r .answer ≡ Answer.Clear t
-            → Passed x0 dx split limits t (Def.safeWalk x0 dx split limits .probed)) ⌝
-    }
+    ensures clear { λ r. ⌜ ((t : Float) → r .answer ≡ Answer.Clear t
+        → Passed x0 dx split limits t (Def.safeWalk x0 dx split limits .probed)) ⌝ }
     ensures budget { λ r. ⌜ ((t : Float) → r .answer ≡ Answer.Budget t → Paused x0 dx split limits t) ⌝ }
-    ensures refused {
-        λ r. ⌜ ((n : ℕ) → r .answer ≡ Answer.Refused n → (r .probes ≡ 0) × (r .halvings ≡ 0)) ⌝
-    }
+    ensures refused { λ r. ⌜ ((n : ℕ) → r .answer ≡ Answer.Refused n → (r .probes ≡ 0) × (r .halvings ≡ 0)) ⌝ }
 {
     let refusal = admit_walk(x0, dx, split, limits);
     if refusal == 0 {

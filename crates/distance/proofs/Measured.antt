@@ -98,11 +98,17 @@ module _ (a : ℕ) (l : a ≤ 58) where
     unfolding Each edgeEdge
     edges-good = (
       point-segment-good 0 x0 x2 x3 h0 h2 h3,
-      (point-segment-good 1 x1 x2 x3 h1 h2 h3,
-      (segment-point-good 2 x0 x1 x2 h0 h1 h2,
-      (segment-point-good 3 x0 x1 x3 h0 h1 h3,
-      each-only Good (edgesMeet (edgeProducts x0 x1 x2 x3)) (edgeInterior (edgeProducts x0 x1 x2 x3) x0 x1 x2 x3)
-      (edge-interior-good (edgeProducts x0 x1 x2 x3))))),
+      (
+        point-segment-good 1 x1 x2 x3 h1 h2 h3,
+        (
+          segment-point-good 2 x0 x1 x2 h0 h1 h2,
+          (
+            segment-point-good 3 x0 x1 x3 h0 h1 h3,
+            each-only Good (edgesMeet (edgeProducts x0 x1 x2 x3)) (edgeInterior (edgeProducts x0 x1 x2 x3) x0 x1 x2 x3)
+                (edge-interior-good (edgeProducts x0 x1 x2 x3)),
+          ),
+        ),
+      ),
     )
 
     -- the place (x0 + v g) + w h of two weights
@@ -132,10 +138,14 @@ module _ (a : ℕ) (l : a ≤ 58) where
     unfolding Each faceVertex
     faces-good = (
       segment-point-good 0 x0 x1 x3 h0 h1 h3,
-      (segment-point-good 1 x1 x2 x3 h1 h2 h3,
-      (segment-point-good 2 x2 x0 x3 h2 h0 h3,
-      each-only Good (overFace (faceProducts x0 x1 x2 x3)) (faceInterior (faceProducts x0 x1 x2 x3) x0 x1 x2 x3)
-      (face-interior-good (faceProducts x0 x1 x2 x3)))),
+      (
+        segment-point-good 1 x1 x2 x3 h1 h2 h3,
+        (
+          segment-point-good 2 x2 x0 x3 h2 h0 h3,
+          each-only Good (overFace (faceProducts x0 x1 x2 x3)) (faceInterior (faceProducts x0 x1 x2 x3) x0 x1 x2 x3)
+              (face-interior-good (faceProducts x0 x1 x2 x3)),
+        ),
+      ),
     )
 
   module _ (split : ℕ) (x : List (List Float)) (h : PointsWithin a x) where

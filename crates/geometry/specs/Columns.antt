@@ -22,8 +22,13 @@ quarter a b c d = (a ⊕ b ⊕ c ⊕ d) ⊗ ofBits binary32 0x3e80_0000
 abbrev pub mean : List (List Float) → ℕ → Float
 mean x i = quarter (at (col x 0) i) (at (col x 1) i) (at (col x 2) i) (at (col x 3) i)
 
+abbrev pub centreOf : List Float → List Float → List Float → List Float → List Float
+centreOf a b c d =
+    vec (quarter (at a 0) (at b 0) (at c 0) (at d 0)) (quarter (at a 1) (at b 1) (at c 1) (at d 1))
+    (quarter (at a 2) (at b 2) (at c 2) (at d 2))
+
 abbrev pub centre : List (List Float) → List Float
-centre x = vec (mean x 0) (mean x 1) (mean x 2)
+centre x = centreOf (col x 0) (col x 1) (col x 2) (col x 3)
 
 -- each column minus the centre
 abbrev pub centred : List (List Float) → List (List Float)

@@ -1,32 +1,37 @@
 // Four points as a whole (mat3x4_array_of_cols.rs, all of it): moved, centred, scaled.
 ghost use mathlib.Core.Path.{_≡_};
 ghost use Rattle.geometry.specs.Columns as Def;
+use super::vec3::along;
+use super::vec3::sub;
 
 // The points at time t: each column of x0 plus t times its displacement.
 pub fn add_scaled(x0: [[f32; 3]; 4], dx: [[f32; 3]; 4], t: f32) -> [[f32; 3]; 4]
     ensures { λ r. ⌜ r ≡ Def.moved x0 dx t ⌝ }
 {
+    let a = x0[0];
+    let b = x0[1];
+    let c = x0[2];
+    let d = x0[3];
+    let da = dx[0];
+    let db = dx[1];
+    let dc = dx[2];
+    let dd = dx[3];
     [
-        [
-            x0[0][0] + t * dx[0][0],
-            x0[0][1] + t * dx[0][1],
-            x0[0][2] + t * dx[0][2],
-        ],
-        [
-            x0[1][0] + t * dx[1][0],
-            x0[1][1] + t * dx[1][1],
-            x0[1][2] + t * dx[1][2],
-        ],
-        [
-            x0[2][0] + t * dx[2][0],
-            x0[2][1] + t * dx[2][1],
-            x0[2][2] + t * dx[2][2],
-        ],
-        [
-            x0[3][0] + t * dx[3][0],
-            x0[3][1] + t * dx[3][1],
-            x0[3][2] + t * dx[3][2],
-        ],
+        along(a, t, da),
+        along(b, t, db),
+        along(c, t, dc),
+        along(d, t, dd),
+    ]
+}
+
+// The centre: a quarter of the sum over the columns.
+fn centre(a: [f32; 3], b: [f32; 3], c: [f32; 3], d: [f32; 3]) -> [f32; 3]
+    ensures { λ r. ⌜ r ≡ Def.centreOf a b c d ⌝ }
+{
+    [
+        (a[0] + b[0] + c[0] + d[0]) * 0.25,
+        (a[1] + b[1] + c[1] + d[1]) * 0.25,
+        (a[2] + b[2] + c[2] + d[2]) * 0.25,
     ]
 }
 
@@ -34,25 +39,28 @@ pub fn add_scaled(x0: [[f32; 3]; 4], dx: [[f32; 3]; 4], t: f32) -> [[f32; 3]; 4]
 pub fn centerized(x: [[f32; 3]; 4]) -> [[f32; 3]; 4]
     ensures { λ r. ⌜ r ≡ Def.centred x ⌝ }
 {
-    let m0 = (x[0][0] + x[1][0] + x[2][0] + x[3][0]) * 0.25;
-    let m1 = (x[0][1] + x[1][1] + x[2][1] + x[3][1]) * 0.25;
-    let m2 = (x[0][2] + x[1][2] + x[2][2] + x[3][2]) * 0.25;
-    [
-        [x[0][0] - m0, x[0][1] - m1, x[0][2] - m2],
-        [x[1][0] - m0, x[1][1] - m1, x[1][2] - m2],
-        [x[2][0] - m0, x[2][1] - m1, x[2][2] - m2],
-        [x[3][0] - m0, x[3][1] - m1, x[3][2] - m2],
-    ]
+    let a = x[0];
+    let b = x[1];
+    let c = x[2];
+    let d = x[3];
+    let m = centre(a, b, c, d);
+    [sub(a, m), sub(b, m), sub(c, m), sub(d, m)]
+}
+
+// The three numbers times s.
+fn times(v: [f32; 3], s: f32) -> [f32; 3]
+    ensures { λ r. ⌜ r ≡ Def.times v s ⌝ }
+{
+    [v[0] * s, v[1] * s, v[2] * s]
 }
 
 // Each of the twelve numbers times s.
 pub fn scaled(x: [[f32; 3]; 4], s: f32) -> [[f32; 3]; 4]
     ensures { λ r. ⌜ r ≡ Def.scaled x s ⌝ }
 {
-    [
-        [x[0][0] * s, x[0][1] * s, x[0][2] * s],
-        [x[1][0] * s, x[1][1] * s, x[1][2] * s],
-        [x[2][0] * s, x[2][1] * s, x[2][2] * s],
-        [x[3][0] * s, x[3][1] * s, x[3][2] * s],
-    ]
+    let a = x[0];
+    let b = x[1];
+    let c = x[2];
+    let d = x[3];
+    [times(a, s), times(b, s), times(c, s), times(d, s)]
 }

@@ -60,6 +60,10 @@ splitRefusal x split = refusal (finitePoints x) (limitPoints x && isSplit split)
 unfoldable pub factorRefusal : List (List Float) → Float → ℕ
 factorRefusal x s = refusal (finitePoints x && isFinite s) (limitPoints x && zeroToLimit s)
 
+-- a pair's 24 numbers: coplanar times
+unfoldable pub motionRefusal : List (List Float) → List (List Float) → ℕ
+motionRefusal x dx = refusal (finitePoints x && finitePoints dx) (limitPoints x && limitPoints dx)
+
 -- a pair's 24 numbers and a time of 0 to 1: moved points, scaling
 unfoldable pub timeRefusal : List (List Float) → List (List Float) → Float → ℕ
 timeRefusal x dx t =

@@ -6,3 +6,4 @@ pub mod Norm
 pub mod Separation
 pub mod Factors
 pub mod Scaling
+pub mod Coplanar

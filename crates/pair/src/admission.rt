@@ -111,6 +111,16 @@ pub fn admit_factor(x: [[f32; 3]; 4], s: f32) -> u32
     )
 }
 
+// The 24 numbers of a pair: coplanar times.
+pub fn admit_motion(x: [[f32; 3]; 4], dx: [[f32; 3]; 4]) -> u32
+    ensures { λ r. ⌜ r ≡ Def.motionRefusal x dx ⌝ }
+{
+    verdict(
+        points_finite(x) & points_finite(dx),
+        points_in_limit(x) & points_in_limit(dx),
+    )
+}
+
 // The 24 numbers of a pair and a time: moved points, scaling.
 pub fn admit_time(x: [[f32; 3]; 4], dx: [[f32; 3]; 4], t: f32) -> u32
     ensures { λ r. ⌜ r ≡ Def.timeRefusal x dx t ⌝ }

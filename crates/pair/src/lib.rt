@@ -16,5 +16,6 @@ pub mod norm;
 pub mod separation;
 
 // Scaling.
+pub mod coplanar;
 mod factors;
 pub mod scaling;

@@ -17,7 +17,13 @@ use Rattle.ccd3.specs.SafeTime.{safeWalk, safeTimeOf}
 use Rattle.ccd3.specs.Promise.{Touched, Stopped, Passed, Paused}
 use Rattle.ccd3.proofs.Handed.{points-fit}
 use Rattle.ccd3.proofs.Clauses.{
-  few-probes, few-halvings, touching-touches, contact-stops, clear-passes, budget-pauses, refusal-counts
+  few-probes,
+  few-halvings,
+  touching-touches,
+  contact-stops,
+  clear-passes,
+  budget-pauses,
+  refusal-counts,
 }
 use Rattle.ccd3.proofs.StartLaws.{safe-admitted, safe-refused}
 use Rattle.ccd3.proofs.Standing.{Ground}
@@ -39,7 +45,7 @@ fitting c =
 
 keeps : (c : tie.Start)
     → Keeps (c .args .x0) (c .args .dx) (c .args .split) (c .args .limits)
-      (safeWalk (c .args .x0) (c .args .dx) (c .args .split) (c .args .limits))
+    (safeWalk (c .args .x0) (c .args .dx) (c .args .split) (c .args .limits))
 keeps c =
     let a = c .args in
     safe-keeps (a .x0) (a .dx) (a .split) (a .limits)
@@ -54,7 +60,7 @@ Promise c r =
     × (((t : Float) → r .answer ≡ Touching t → Touched (a .x0) (a .dx) (a .split) (a .limits) t)
     × (((t : Float) → r .answer ≡ Contact t → Stopped (a .x0) (a .dx) (a .split) (a .limits) t)
     × (((t : Float) → r .answer ≡ Clear t
-      → Passed (a .x0) (a .dx) (a .split) (a .limits) t (safeWalk (a .x0) (a .dx) (a .split) (a .limits) .probed))
+    → Passed (a .x0) (a .dx) (a .split) (a .limits) t (safeWalk (a .x0) (a .dx) (a .split) (a .limits) .probed))
     × (((t : Float) → r .answer ≡ Budget t → Paused (a .x0) (a .dx) (a .split) (a .limits) t)
     × ((n : ℕ) → r .answer ≡ Refused n → (r .probes ≡ 0) × (r .halvings ≡ 0))))))))
 
@@ -65,13 +71,25 @@ all c r e =
     let a = c .args in
     let k = keeps c in (
       e,
-      (few-probes (a .x0) (a .dx) (a .split) (a .limits) k r e,
-      (few-halvings (a .x0) (a .dx) (a .split) (a .limits) k r e,
-      (touching-touches (a .x0) (a .dx) (a .split) (a .limits) k r e,
-      (contact-stops (a .x0) (a .dx) (a .split) (a .limits) k r e,
-      (clear-passes (a .x0) (a .dx) (a .split) (a .limits) k r e,
-      (budget-pauses (a .x0) (a .dx) (a .split) (a .limits) k r e,
-      refusal-counts (a .x0) (a .dx) (a .split) (a .limits) k r e)))))),
+      (
+        few-probes (a .x0) (a .dx) (a .split) (a .limits) k r e,
+        (
+          few-halvings (a .x0) (a .dx) (a .split) (a .limits) k r e,
+          (
+            touching-touches (a .x0) (a .dx) (a .split) (a .limits) k r e,
+            (
+              contact-stops (a .x0) (a .dx) (a .split) (a .limits) k r e,
+              (
+                clear-passes (a .x0) (a .dx) (a .split) (a .limits) k r e,
+                (
+                  budget-pauses (a .x0) (a .dx) (a .split) (a .limits) k r e,
+                  refusal-counts (a .x0) (a .dx) (a .split) (a .limits) k r e,
+                ),
+              ),
+            ),
+          ),
+        ),
+      ),
     )
 
 returns : tie.Need-returns

@@ -1,0 +1,98 @@
+// One line for a call: its name, its answer, and what lies there afterwards where something was lent.
+use super::text;
+use pair::admission;
+use pair::norm;
+use pair::norm::Normed;
+use pair::points;
+use pair::record;
+use pair::record::Limits;
+use pair::scaling;
+use pair::scaling::Scaling;
+use pair::separation;
+
+fn factor(answer: Scaling) {
+    match answer {
+        Scaling::Factor(f) => {
+            text::text(b" factor");
+            text::number(f);
+        }
+        Scaling::Refused(n) => text::refusal(n),
+    }
+}
+
+// Scaling a lent pair.
+pub fn scaled(name: &[u8], x: [[f32; 3]; 4], dx: [[f32; 3]; 4], max_t: f32) {
+    text::text(name);
+    let s = scaling::after_scaling(record::pair_of(x, dx), max_t);
+    let answer = s.answer;
+    factor(answer);
+    let p = s.pair;
+    text::points(record::x_of(p));
+    text::points(record::dx_of(p));
+    text::end();
+}
+
+fn normed(answer: Normed) {
+    match answer {
+        Normed::Norm(r) => {
+            text::text(b" norm");
+            text::number(r);
+        }
+        Normed::Refused(n) => text::refusal(n),
+    }
+}
+
+// The norm and the distance of points by a split.
+pub fn measured(name: &[u8], x: [[f32; 3]; 4], split: usize) {
+    text::text(name);
+    normed(norm::max_relative_norm(x, split));
+    let d = separation::squared_distance(x, split);
+    text::refusal(d.refusal);
+    text::number(d.squared);
+    let w = d.direction;
+    text::point(w);
+    text::word(d.candidate);
+    text::end();
+}
+
+// A place along a segment.
+pub fn placed(name: &[u8], p0: [f32; 3], p1: [f32; 3], ratio: f32) {
+    text::text(name);
+    let r = points::lerp(p0, p1, ratio);
+    text::refusal(r.refusal);
+    let p = r.point;
+    text::point(p);
+    text::end();
+}
+
+// Points moved into lent ones; lent points centred and scaled.
+pub fn moved(name: &[u8], x0: [[f32; 3]; 4], dx: [[f32; 3]; 4], t: f32, lent: [[f32; 3]; 4]) {
+    text::text(name);
+    let mut x = lent;
+    text::refusal(points::add_scaled(x0, dx, t, &mut x));
+    text::points(x);
+    text::end();
+}
+
+pub fn centred(name: &[u8], lent: [[f32; 3]; 4]) {
+    text::text(name);
+    let mut x = lent;
+    text::refusal(points::centerize(&mut x));
+    text::points(x);
+    text::end();
+}
+
+pub fn times(name: &[u8], lent: [[f32; 3]; 4], s: f32) {
+    text::text(name);
+    let mut x = lent;
+    text::refusal(points::scale_in_place(&mut x, s));
+    text::points(x);
+    text::end();
+}
+
+// The admission of a safe time.
+pub fn admitted(name: &[u8], x: [[f32; 3]; 4], split: usize, limits: Limits) {
+    text::text(name);
+    text::refusal(admission::admit_walk(x, x, split, limits));
+    text::end();
+}

@@ -1,0 +1,67 @@
+// What the test writes: words, and numbers as the eight hex digits of their bits.
+use libc::STDOUT_FILENO;
+
+// The hex digit of a number's last four bits.
+fn digit(n: u32) -> u8 {
+    let d = n % 16;
+    if d < 10 {
+        48 + (d as u8)
+    } else {
+        87 + (d as u8)
+    }
+}
+
+pub fn text(s: &[u8]) {
+    io::write_all(STDOUT_FILENO, s);
+}
+
+pub fn word(n: u32) {
+    let digits = [
+        32,
+        digit(n >> 28),
+        digit(n >> 24),
+        digit(n >> 20),
+        digit(n >> 16),
+        digit(n >> 12),
+        digit(n >> 8),
+        digit(n >> 4),
+        digit(n),
+    ];
+    text(&digits);
+}
+
+// A NaN has no bits that can be read here.
+pub fn number(x: f32) {
+    if x != x {
+        text(b" nan");
+    } else {
+        word(f32::to_bits(x));
+    }
+}
+
+pub fn point(v: [f32; 3]) {
+    number(v[0]);
+    number(v[1]);
+    number(v[2]);
+}
+
+pub fn points(x: [[f32; 3]; 4]) {
+    let a = x[0];
+    let b = x[1];
+    let c = x[2];
+    let d = x[3];
+    point(a);
+    point(b);
+    point(c);
+    point(d);
+}
+
+// A refusal number, 0 where there is none.
+pub fn refusal(n: u32) {
+    text(b" refusal");
+    word(n);
+}
+
+pub fn end() {
+    text(b"\n");
+}
