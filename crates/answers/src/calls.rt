@@ -17,6 +17,7 @@ pub fn answer(function: u32, call: &[u8], out: &mut [u8]) {
         8 => scaling::normalize(call, out),
         9 => roots::quadratic_root(call, out),
         10 => roots::cubic_roots(call, out),
+        11 => roots::coplanar_time(call, out),
         12 => safe_time::maximum_safe_time(call, out),
         _ => {}
     }

@@ -2,6 +2,7 @@
 use crate::words;
 use number::root;
 use number::root::Rooted;
+use pair::coplanar;
 use polynomial_root::answer::Roots;
 
 pub fn square_root(call: &[u8], out: &mut [u8]) {
@@ -31,5 +32,12 @@ pub fn cubic_roots(call: &[u8], out: &mut [u8]) {
     put_roots(
         out,
         polynomial_root::cubic_roots_in_range_zero_to_t(c[0], c[1], c[2], c3, t, epsilon),
+    );
+}
+
+pub fn coplanar_time(call: &[u8], out: &mut [u8]) {
+    put_roots(
+        out,
+        coplanar::coplanar_time_mat3x4(words::points(call, 4), words::points(call, 52)),
     );
 }
