@@ -11,7 +11,7 @@ use Rattle.number.proofs.NoNan.{no-nan-lt}
 use Rattle.number.proofs.Comparing.{not-lt-le}
 use Rattle.distance.specs.declared.candidate.Nearest.{Nearest}
 use Rattle.distance.specs.Candidate.{nearer, nearestFrom, only}
-use Rattle.distance.proofs.Order.{lt-trans, le-lt-trans, lt-not-le}
+use Rattle.number.proofs.Transitive.{lt-trans, le-lt-trans, lt-not-le}
 
 module _ (t : Float) where
   -- b, and no candidate of the list is at or below t
@@ -40,7 +40,8 @@ module _ (t : Float) where
 
   above-nearer : (a b : Nearest) → lt t (nearer a b .squared) ≡ lt t (a .squared) && not (le (b .squared) t)
   unfolding nearer
-  above-nearer a b = go (lt (b .squared) (a .squared)) (taken (a .squared) (b .squared)) (kept (a .squared) (b .squared))
+  above-nearer a b =
+      go (lt (b .squared) (a .squared)) (taken (a .squared) (b .squared)) (kept (a .squared) (b .squared))
     where
       go : (c : Bool) → (T c → lt t (b .squared) ≡ lt t (a .squared) && not (le (b .squared) t))
           → (T (not c) → lt t (a .squared) ≡ lt t (a .squared) && not (le (b .squared) t))
@@ -48,26 +49,27 @@ module _ (t : Float) where
       go true f g = f tt
       go false f g = g tt
 
-  pub above-from : (a : Nearest) (rest : List Nearest) → lt t (nearestFrom a rest .squared) ≡ still (lt t (a .squared)) rest
+  pub above-from : (a : Nearest) (rest : List Nearest)
+      → lt t (nearestFrom a rest .squared) ≡ still (lt t (a .squared)) rest
   unfolding nearestFrom still
   above-from a [] = refl
   above-from a (b ∷ rest) = above-from (nearer a b) rest ∙ ap (λ (z : Bool). still z rest) (above-nearer a b)
 
   -- a last candidate that is there only where the test m holds
-  pub reached-last : (b m : Bool) (c : Nearest) → m && le (c .squared) t ≡ true → still b (only m c) ≡ false
+  pub last-reaches : (b m : Bool) (c : Nearest) → m && le (c .squared) t ≡ true → still b (only m c) ≡ false
   unfolding still only
-  reached-last b true c h = rw h (none b)
+  last-reaches b true c h = rw h (none b)
     where
       none : (b : Bool) → b && false ≡ false
       none true = refl
       none false = refl
-  reached-last b false c h = absurd (false≢true h)
+  last-reaches b false c h = absurd (false≢true h)
 
-  pub clear-last : (b m : Bool) (c : Nearest) → m && le (c .squared) t ≡ false → still b (only m c) ≡ b
+  pub last-clears : (b m : Bool) (c : Nearest) → m && le (c .squared) t ≡ false → still b (only m c) ≡ b
   unfolding still only
-  clear-last b true c h = rw h (same b)
+  last-clears b true c h = rw h (same b)
     where
       same : (b : Bool) → b && true ≡ b
       same true = refl
       same false = refl
-  clear-last b false c h = refl
+  last-clears b false c h = refl

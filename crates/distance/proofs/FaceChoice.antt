@@ -8,7 +8,7 @@ use Rattle.distance.specs.declared.candidate.Nearest.{Nearest}
 use Rattle.distance.specs.declared.products.Products.{Products}
 use Rattle.distance.specs.Candidate.{segmentPoint, nearestFrom, firstSmallest, only}
 use Rattle.distance.specs.FaceVertex.{faceProducts, overFace, faceInterior, faceVertex}
-use Rattle.distance.proofs.Above.{still, above-from, reached-last, clear-last}
+use Rattle.distance.proofs.Above.{still, above-from, last-reaches, last-clears}
 
 -- the interior candidate, as a call finds it
 pub record Inner (x0 x1 x2 x3 : List Float) (inner : Nearest) (over : Bool) : Type 0 where
@@ -25,9 +25,9 @@ pub record Rim (x0 x1 x2 x3 : List Float) (c0 c1 c2 : Nearest) : Type 0 where
 
 module _ (x0 x1 x2 x3 : List Float) (c0 c1 c2 inner : Nearest) (over : Bool) (e : Rim x0 x1 x2 x3 c0 c1 c2)
     (k : Inner x0 x1 x2 x3 inner over) where
-  pub found : nearestFrom c0 (c1 ∷ c2 ∷ only over inner) ≡ firstSmallest (faceVertex x0 x1 x2 x3)
+  pub face-found : nearestFrom c0 (c1 ∷ c2 ∷ only over inner) ≡ firstSmallest (faceVertex x0 x1 x2 x3)
   unfolding faceVertex
-  found = λ i. nearestFrom (e .is-c0 i) (e .is-c1 i ∷ e .is-c2 i ∷ only (there i) (last i))
+  face-found = λ i. nearestFrom (e .is-c0 i) (e .is-c1 i ∷ e .is-c2 i ∷ only (there i) (last i))
     where
       there : over ≡ overFace (faceProducts x0 x1 x2 x3)
       there = k .is-over ∙ ap overFace (k .is-p)
@@ -35,21 +35,23 @@ module _ (x0 x1 x2 x3 : List Float) (c0 c1 c2 inner : Nearest) (over : Bool) (e 
       last : inner ≡ faceInterior (faceProducts x0 x1 x2 x3) x0 x1 x2 x3
       last = k .is-inner ∙ ap (λ (q : Products). faceInterior q x0 x1 x2 x3) (k .is-p)
 
-  pub above : (t : Float) → over && le (inner .squared) t ≡ false
+  pub face-above : (t : Float) → over && le (inner .squared) t ≡ false
       → lt t (c0 .squared) && not (le (c1 .squared) t) && not (le (c2 .squared) t)
       ≡ lt t (firstSmallest (faceVertex x0 x1 x2 x3) .squared)
   unfolding still
-  above t h =
-      sym (clear-last t _ over inner h) ∙ sym (above-from t c0 (c1 ∷ c2 ∷ only over inner))
-      ∙ ap (λ (n : Nearest). lt t (n .squared)) found
+  face-above t h =
+      sym (last-clears t _ over inner h) ∙ sym (above-from t c0 (c1 ∷ c2 ∷ only over inner))
+      ∙ ap (λ (n : Nearest). lt t (n .squared)) face-found
 
-pub reached : (x0 x1 x2 x3 : List Float) (inner : Nearest) (over : Bool) → Inner x0 x1 x2 x3 inner over → (t : Float)
-    → over && le (inner .squared) t ≡ true → false ≡ lt t (firstSmallest (faceVertex x0 x1 x2 x3) .squared)
+pub face-reached : (x0 x1 x2 x3 : List Float) (inner : Nearest) (over : Bool) → Inner x0 x1 x2 x3 inner over
+    → (t : Float) → over && le (inner .squared) t ≡ true
+    → false ≡ lt t (firstSmallest (faceVertex x0 x1 x2 x3) .squared)
 unfolding still
-reached x0 x1 x2 x3 inner over k t h =
-    sym (reached-last t _ over inner h)
-    ∙ sym (above-from t (segmentPoint 0 x0 x1 x3) (segmentPoint 1 x1 x2 x3 ∷ segmentPoint 2 x2 x0 x3 ∷ only over inner))
-    ∙ ap (λ (n : Nearest). lt t (n .squared)) (found x0 x1 x2 x3 _ _ _ inner over same k)
+face-reached x0 x1 x2 x3 inner over k t h =
+    sym (last-reaches t _ over inner h)
+    ∙ sym (above-from t (segmentPoint 0 x0 x1 x3)
+    (segmentPoint 1 x1 x2 x3 ∷ segmentPoint 2 x2 x0 x3 ∷ only over inner))
+    ∙ ap (λ (n : Nearest). lt t (n .squared)) (face-found x0 x1 x2 x3 _ _ _ inner over same k)
   where
     same : Rim x0 x1 x2 x3 (segmentPoint 0 x0 x1 x3) (segmentPoint 1 x1 x2 x3) (segmentPoint 2 x2 x0 x3)
     same = record { is-c0 = refl; is-c1 = refl; is-c2 = refl }

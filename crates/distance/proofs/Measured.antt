@@ -3,16 +3,16 @@
 use Prim.Native.Nat.{ℕ, suc, _+_, _≤_, _<_}
 use native.Mathlib.Omega.{arith}
 use mathlib.Core.Bool.{Bool, true, false, _&&_, cond}
-use mathlib.Core.List.{List, _∷_}
+use mathlib.Core.List.{List}
 use lib.Dec.{T, eqb, lit<}
 use lib.Ieee.{Float, binary32, lt, le, fits}
 use lib.Ieee.Fits.{and-i, and-l, and-r, add-fits, div-fits}
-use Rattle.number.specs.Number.{_⊕_, _⊖_, _⊗_, _⊘_, zero32, one32}
+use Rattle.number.specs.Number.{_⊕_, zero32, one32}
 use Rattle.number.specs.Range.{zeroToOne}
 use Rattle.number.proofs.Units.{plus}
 use Rattle.number.proofs.Within.{Within}
 use Rattle.number.proofs.Ranges.{zero-to-one}
-use Rattle.geometry.specs.Vec3.{at, col, minus, dot, along}
+use Rattle.geometry.specs.Vec3.{col, minus, along}
 use Rattle.geometry.specs.Edge3.{lerpOf}
 use Rattle.geometry.proofs.Bounds.{VecWithin, PointsWithin, col-within, vec-more}
 use Rattle.geometry.proofs.Bounds.{minus-within, dot-within, along-within, lerp-within}
@@ -20,7 +20,7 @@ use Rattle.distance.specs.declared.candidate.Nearest.{Nearest}
 use Rattle.distance.specs.declared.products.Products.{Products}
 use Rattle.distance.specs.Segment.{placeOn}
 use Rattle.distance.specs.Products.{beMinusCd, cdMinusBe, aeMinusBd}
-use Rattle.distance.specs.Candidate.{fromTo, pointSegment, segmentPoint, only, firstSmallest}
+use Rattle.distance.specs.Candidate.{fromTo, pointSegment, segmentPoint}
 use Rattle.distance.specs.EdgeEdge.{edgeProducts, edgesMeet, edgeInterior, edgeEdge}
 use Rattle.distance.specs.FaceVertex.{faceProducts, overFace, faceInterior, faceVertex}
 use Rattle.distance.specs.Nearest.{candidatesOf, nearestOf}
@@ -91,7 +91,8 @@ module _ (a : ℕ) (l : a ≤ 58) where
         let s = beMinusCd p in
         let r = aeMinusBd p in
         let first = and-l (lt zero32 (p .det) && zeroToOne s) (zeroToOne r) t in
-        good 4 (lerpOf x0 x1 s) (lerpOf x2 x3 r) (lerp-far x0 x1 s h0 h1 (and-r (lt zero32 (p .det)) (zeroToOne s) first))
+        good 4 (lerpOf x0 x1 s) (lerpOf x2 x3 r)
+        (lerp-far x0 x1 s h0 h1 (and-r (lt zero32 (p .det)) (zeroToOne s) first))
         (lerp-far x2 x3 r h2 h3 (and-r (lt zero32 (p .det) && zeroToOne s) (zeroToOne r) t))
 
     edges-good : Each Good (listed (edgeEdge x0 x1 x2 x3))
@@ -125,14 +126,15 @@ module _ (a : ℕ) (l : a ≤ 58) where
     face-interior-good p t =
         let v = cdMinusBe p in
         let w = aeMinusBd p in
-        let abc = and-l (lt zero32 (p .det) && le zero32 v && le zero32 w) (le (v ⊕ w) one32) t in
-        let b = and-r (lt zero32 (p .det)) (le zero32 v) (and-l (lt zero32 (p .det) && le zero32 v) (le zero32 w) abc) in
-        let c = and-r (lt zero32 (p .det) && le zero32 v) (le zero32 w) abc in
-        let sum = and-r (lt zero32 (p .det) && le zero32 v && le zero32 w) (le (v ⊕ w) one32) t in
-        let both = weights-in v w (div-fits binary32 _ _) (div-fits binary32 _ _) b c sum in
+        let above = lt zero32 (p .det) in
+        let three = and-l (above && le zero32 v && le zero32 w) (le (v ⊕ w) one32) t in
+        let v-from = and-r above (le zero32 v) (and-l (above && le zero32 v) (le zero32 w) three) in
+        let w-from = and-r (above && le zero32 v) (le zero32 w) three in
+        let sum = and-r (above && le zero32 v && le zero32 w) (le (v ⊕ w) one32) t in
+        let to = weights-in v w (div-fits binary32 _ _) (div-fits binary32 _ _) v-from w-from sum in
         good 3 (along (along x0 v (minus x1 x0)) w (minus x2 x0)) x3
-        (face-place-far v w (and-i (le zero32 v) (le v one32) b (both .0)) (and-i (le zero32 w) (le w one32) c (both .1)))
-        (far x3 h3)
+        (face-place-far v w (and-i (le zero32 v) (le v one32) v-from (to .0))
+        (and-i (le zero32 w) (le w one32) w-from (to .1))) (far x3 h3)
 
     faces-good : Each Good (listed (faceVertex x0 x1 x2 x3))
     unfolding Each faceVertex
@@ -159,11 +161,11 @@ module _ (a : ℕ) (l : a ≤ 58) where
         go : (b : Bool) → Each Good (listed (cond b (edgeEdge (col x 0) (col x 1) (col x 2) (col x 3))
             (faceVertex (col x 0) (col x 1) (col x 2) (col x 3))))
         go true =
-            edges-good (col x 0) (col x 1) (col x 2) (col x 3) (column 0 (lit< tt)) (column 1 (lit< tt)) (column 2 (lit< tt))
-            (column 3 (lit< tt))
+            edges-good (col x 0) (col x 1) (col x 2) (col x 3) (column 0 (lit< tt)) (column 1 (lit< tt))
+            (column 2 (lit< tt)) (column 3 (lit< tt))
         go false =
-            faces-good (col x 0) (col x 1) (col x 2) (col x 3) (column 0 (lit< tt)) (column 1 (lit< tt)) (column 2 (lit< tt))
-            (column 3 (lit< tt))
+            faces-good (col x 0) (col x 1) (col x 2) (col x 3) (column 0 (lit< tt)) (column 1 (lit< tt))
+            (column 2 (lit< tt)) (column 3 (lit< tt))
 
     pub nearest-measured : Measured (beyond a) (nearestOf split x)
     unfolding nearestOf

@@ -1,14 +1,14 @@
--- The ratio of a place on a segment (specs/Segment.antt) is no NaN and lies in 0..1, for points within a bound: the squared
--- length is finite and above zero, so the quotient is no NaN, and what is no NaN is clamped to 0..1. Assumes nothing.
+-- The ratio of a place on a segment (specs/Segment.antt) is no NaN and lies in 0..1, for points within a bound: a
+-- squared length that is not zero is finite and above zero, so the quotient is no NaN, and what is no NaN is clamped
+-- to 0..1. Assumes nothing.
 use Prim.Native.Nat.{ℕ, suc, _+_, _≤_, _<_}
 use native.Mathlib.Omega.{arith}
 use mathlib.Core.Path.{_≡_, refl, subst}
 use mathlib.Core.Bool.{Bool, true, false, not, _||_, cond}
 use mathlib.Core.List.{List}
 use lib.Dec.{T, lit<}
-use lib.Ieee.{Float, nan, inf, fin, lt, le, eq, isNan, ofBits}
+use lib.Ieee.{Float, fin, lt, le, eq, isNan, ofBits}
 use lib.Ieee.Fits.{and-i}
-use lib.Ieee.Scale.{finite}
 use Rattle.number.specs.Number.{_⊗_, _⊕_, _⊘_, zero32, one32, clamp}
 use Rattle.number.specs.Range.{zeroToOne}
 use Rattle.number.proofs.Units.{plus}
@@ -18,10 +18,9 @@ use Rattle.number.proofs.Within.{Within, within-finite, div-no-nan}
 use Rattle.number.proofs.Ranges.{zero-to-one}
 use Rattle.number.proofs.Signs.{plus-up, square-plus, sum-plus}
 use Rattle.geometry.specs.Vec3.{at, minus, dot}
-use Rattle.geometry.specs.Edge3.{lerpOf}
-use Rattle.geometry.proofs.Bounds.{VecWithin, minus-within, dot-within, lerp-within, vec-more}
+use Rattle.geometry.proofs.Bounds.{VecWithin, minus-within, dot-within, lerp-within}
 use Rattle.distance.specs.Segment.{ratioAlong, placeOn}
-use Rattle.distance.proofs.Order.{lt-not-le}
+use Rattle.number.proofs.Transitive.{lt-not-le}
 
 -- ---- a square of a vector has the sign plus
 pub square-is-plus : (a : ℕ) (v : List Float) → VecWithin a v → T (plus (dot v v))
@@ -58,7 +57,8 @@ above-zero a x h p n = decide (lt zero32 x) (not-lt-le zero32 x zero-no-nan (no-
     decide : (b : Bool) → (T (not b) → T (le x zero32)) → T b
     decide true f = tt
     decide false f =
-        absurd (below-or-same (lt x zero32) (eq x zero32) (λ k. lt-not-le x zero32 k (plus-up x p)) n (le-opens x (f tt)))
+        absurd (below-or-same (lt x zero32) (eq x zero32) (λ k. lt-not-le x zero32 k (plus-up x p)) n
+        (le-opens x (f tt)))
 
 -- ---- the ratio and the place
 zero-in : T (zeroToOne zero32)
@@ -72,10 +72,12 @@ quotient-in a b n d hn hd p = go (eq d zero32) refl
     go : (c : Bool) → eq d zero32 ≡ c → T (zeroToOne (cond c zero32 (clamp (n ⊘ d) zero32 one32)))
     go true e = zero-in
     go false e =
-        let r = clamp-in (n ⊘ d) (div-no-nan n d (within-finite a n hn) (within-finite b d hd) (above-zero b d hd p e)) in
+        let no = div-no-nan n d (within-finite a n hn) (within-finite b d hd) (above-zero b d hd p e) in
+        let r = clamp-in (n ⊘ d) no in
         and-i (le zero32 (clamp (n ⊘ d) zero32 one32)) (le (clamp (n ⊘ d) zero32 one32) one32) (r .0) (r .1)
 
-module _ (a : ℕ) (p q0 q1 : List Float) (l : a ≤ 58) (hp : VecWithin a p) (h0 : VecWithin a q0) (h1 : VecWithin a q1) where
+module _ (a : ℕ) (p q0 q1 : List Float) (l : a ≤ 58) (hp : VecWithin a p) (h0 : VecWithin a q0)
+    (h1 : VecWithin a q1) where
   pub ratio-in : T (zeroToOne (ratioAlong p q0 (minus q1 q0)))
   unfolding ratioAlong
   ratio-in =

@@ -11,10 +11,11 @@ use Rattle.distance.specs.FaceVertex.{faceVertex}
 use Rattle.distance.specs.Nearest.{candidatesOf, nearestOf}
 
 module _ (split : ℕ) (x : List (List Float)) where
-  pub two : split ≡ 2 → nearestOf split x ≡ firstSmallest (edgeEdge (col x 0) (col x 1) (col x 2) (col x 3))
+  pub split-two : split ≡ 2 → nearestOf split x ≡ firstSmallest (edgeEdge (col x 0) (col x 1) (col x 2) (col x 3))
   unfolding nearestOf candidatesOf
-  two e = rw (eq-eqb split 2 e)
+  split-two e = rw (eq-eqb split 2 e)
 
-  pub other : (split ≡ 2 → ⊥) → nearestOf split x ≡ firstSmallest (faceVertex (col x 0) (col x 1) (col x 2) (col x 3))
+  pub split-other : (split ≡ 2 → ⊥)
+      → nearestOf split x ≡ firstSmallest (faceVertex (col x 0) (col x 1) (col x 2) (col x 3))
   unfolding nearestOf candidatesOf
-  other n = rw (ne-eqb split 2 n)
+  split-other n = rw (ne-eqb split 2 n)

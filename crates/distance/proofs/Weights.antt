@@ -1,7 +1,7 @@
--- Two numbers that are not below zero and whose computed sum is at most 1: each is at most 1. So the weights of a place in
--- a face are ratios. Assumes nothing.
+-- Two numbers that are not below zero and whose computed sum is at most 1: each is at most 1. So the weights of a
+-- place in a face are ratios. Assumes nothing.
 use mathlib.Core.Path.{_≡_, refl, sym, ap, _∙_, subst}
-use Prim.Native.Nat.{ℕ, zero, suc, _+_, _*_, _≤_, _<_}
+use Prim.Native.Nat.{ℕ, _+_, _≤_, _<_}
 use native.Mathlib.Nat.{le-trans, lt-of-lt-of-le, lt-irrefl, add-comm, zero-add, mul-one}
 use native.Mathlib.Omega.{arith}
 use native.Mathlib.Decide.{decLt}
@@ -32,23 +32,27 @@ no-inf h = h
 module _ (v w : Float) (a b : ℕ) (p : Unit32 v a) (q : Unit32 w b) (h : T (le (v ⊕ w) one32)) where
   exact : rnd (a + b) 1 < Top → Both v w
   exact l =
-      let s : rnd (a + b) 1 ≤ L = le-says (v ⊕ w) one32 (rnd (a + b) 1) L (add-is v w a b (p .is) (q .is) l) one-is h in
+      let sum : Is (v ⊕ w) (rnd (a + b) 1) = add-is v w a b (p .is) (q .is) l in
+      let s : rnd (a + b) 1 ≤ L = le-says (v ⊕ w) one32 (rnd (a + b) 1) L sum one-is h in
       let other : b ≤ rnd (a + b) 1 = subst (λ (n : ℕ). b ≤ rnd n 1) (add-comm b a) (grows b a (q .rep)) in (
         says-le v one32 a L (p .is) one-is (le-trans (grows a b (p .rep)) s),
         says-le w one32 b L (q .is) one-is (le-trans other s),
       )
 
   alone : a ≡ 0 → rnd (a + b) 1 ≡ b
-  alone z = ap (λ (n : ℕ). rnd (n + b) 1) z ∙ ap (λ (n : ℕ). rnd n 1) (zero-add b ∙ sym (mul-one b)) ∙ rnd-fix b 1 (pow-pos 0) (q .rep)
+  alone z =
+      ap (λ (n : ℕ). rnd (n + b) 1) z ∙ ap (λ (n : ℕ). rnd n 1) (zero-add b ∙ sym (mul-one b))
+      ∙ rnd-fix b 1 (pow-pos 0) (q .rep)
 
 -- the sum does not overflow: it would be the infinity
-unders : (v w : Float) (a b : ℕ) → Unit32 v a → Unit32 w b → T (le (v ⊕ w) one32) → Top ≤ rnd (a + b) 1 → ⊥
-unders nan w a b p q h l = p .is
-unders (inf s) w a b p q h l = p .is
-unders (fin false m e) w a b p q h l =
+overflows : (v w : Float) (a b : ℕ) → Unit32 v a → Unit32 w b → T (le (v ⊕ w) one32) → Top ≤ rnd (a + b) 1 → ⊥
+overflows nan w a b p q h l = p .is
+overflows (inf s) w a b p q h l = p .is
+overflows (fin false m e) w a b p q h l =
     no-inf (subst (λ (x : Float). T (le x one32)) (add-over (fin false m e) w a b tt (p .is) (q .is) l) h)
-unders (fin true m e) w a b p q h l =
-    lt-irrefl b (lt-of-lt-of-le (q .under) (subst (λ (n : ℕ). Top ≤ n) (alone (fin true m e) w a b p q h (p .is .1)) l))
+overflows (fin true m e) w a b p q h l =
+    lt-irrefl b
+    (lt-of-lt-of-le (q .under) (subst (λ (n : ℕ). Top ≤ n) (alone (fin true m e) w a b p q h (p .is .1)) l))
 
 finite-in : (v w : Float) → T (fits binary32 v) → T (fits binary32 w) → T (finite v) → T (finite w) → T (le zero32 v)
     → T (le zero32 w) → T (le (v ⊕ w) one32) → Both v w
@@ -62,7 +66,7 @@ finite-in v w f g i j h k l =
 
     go : (a b : ℕ) → Unit32 v a → Unit32 w b → Dec (rnd (a + b) 1 < Top) → Both v w
     go a b p q (yes u) = exact v w a b p q l u
-    go a b p q (no n) = absurd (unders v w a b p q l (reaches (rnd (a + b) 1) Top n))
+    go a b p q (no n) = absurd (overflows v w a b p q l (reaches (rnd (a + b) 1) Top n))
 
 pub weights-in : (v w : Float) → T (fits binary32 v) → T (fits binary32 w) → T (le zero32 v) → T (le zero32 w)
     → T (le (v ⊕ w) one32) → T (le v one32) × T (le w one32)

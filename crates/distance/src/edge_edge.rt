@@ -37,7 +37,7 @@ fn interior(p: Products, x0: [f32; 3], x1: [f32; 3], x2: [f32; 3], x3: [f32; 3])
 }
 
 // The first smallest of the five candidates: the last one that is nearer than all before it.
-pub fn edge_edge(x0: [f32; 3], x1: [f32; 3], x2: [f32; 3], x3: [f32; 3]) -> Nearest
+pub(crate) fn edge_edge(x0: [f32; 3], x1: [f32; 3], x2: [f32; 3], x3: [f32; 3]) -> Nearest
     ensures { λ r. ⌜ r ≡ firstSmallest (Def.edgeEdge x0 x1 x2 x3) ⌝ }
 {
     let p = edge_products(x0, x1, x2, x3);
@@ -66,7 +66,13 @@ pub fn edge_edge(x0: [f32; 3], x1: [f32; 3], x2: [f32; 3], x3: [f32; 3]) -> Near
 
 // Whether the squared distance is above a threshold. The interior candidate is asked first: where it is there it is
 // often the nearest, and one candidate that is not above settles it.
-pub fn edges_above(x0: [f32; 3], x1: [f32; 3], x2: [f32; 3], x3: [f32; 3], threshold: f32) -> bool
+pub(crate) fn edges_above(
+    x0: [f32; 3],
+    x1: [f32; 3],
+    x2: [f32; 3],
+    x3: [f32; 3],
+    threshold: f32,
+) -> bool
     ensures { λ r. ⌜ r ≡ lt threshold (firstSmallest (Def.edgeEdge x0 x1 x2 x3) .squared) ⌝ }
 {
     let p = edge_products(x0, x1, x2, x3);

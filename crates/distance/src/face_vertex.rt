@@ -35,7 +35,7 @@ fn interior(p: Products, x0: [f32; 3], x1: [f32; 3], x2: [f32; 3], x3: [f32; 3])
 }
 
 // The first smallest of the four candidates: the last one that is nearer than all before it.
-pub fn face_vertex(x0: [f32; 3], x1: [f32; 3], x2: [f32; 3], x3: [f32; 3]) -> Nearest
+pub(crate) fn face_vertex(x0: [f32; 3], x1: [f32; 3], x2: [f32; 3], x3: [f32; 3]) -> Nearest
     ensures { λ r. ⌜ r ≡ firstSmallest (Def.faceVertex x0 x1 x2 x3) ⌝ }
 {
     let p = face_products(x0, x1, x2, x3);
@@ -59,7 +59,13 @@ pub fn face_vertex(x0: [f32; 3], x1: [f32; 3], x2: [f32; 3], x3: [f32; 3]) -> Ne
 
 // Whether the squared distance is above a threshold. The interior candidate is asked first: where it is there it is
 // often the nearest, and one candidate that is not above settles it.
-pub fn face_above(x0: [f32; 3], x1: [f32; 3], x2: [f32; 3], x3: [f32; 3], threshold: f32) -> bool
+pub(crate) fn face_above(
+    x0: [f32; 3],
+    x1: [f32; 3],
+    x2: [f32; 3],
+    x3: [f32; 3],
+    threshold: f32,
+) -> bool
     ensures { λ r. ⌜ r ≡ lt threshold (firstSmallest (Def.faceVertex x0 x1 x2 x3) .squared) ⌝ }
 {
     let p = face_products(x0, x1, x2, x3);

@@ -14,7 +14,7 @@ pub struct Products {
 }
 
 // Of the directions u and v and the gap w.
-pub fn products_of(u: [f32; 3], v: [f32; 3], w: [f32; 3]) -> Products
+pub(crate) fn products_of(u: [f32; 3], v: [f32; 3], w: [f32; 3]) -> Products
     ensures { λ r. ⌜ r ≡ Def.productsOf u v w ⌝ }
 {
     let a = vec3::dot(u, u);
@@ -30,19 +30,19 @@ pub fn products_of(u: [f32; 3], v: [f32; 3], w: [f32; 3]) -> Products
     }
 }
 
-pub fn be_minus_cd(p: Products) -> f32
+pub(crate) fn be_minus_cd(p: Products) -> f32
     ensures { λ r. ⌜ r ≡ Def.beMinusCd p ⌝ }
 {
     (p.b * p.e - p.c * p.d) / p.det
 }
 
-pub fn cd_minus_be(p: Products) -> f32
+pub(crate) fn cd_minus_be(p: Products) -> f32
     ensures { λ r. ⌜ r ≡ Def.cdMinusBe p ⌝ }
 {
     (p.c * p.d - p.b * p.e) / p.det
 }
 
-pub fn ae_minus_bd(p: Products) -> f32
+pub(crate) fn ae_minus_bd(p: Products) -> f32
     ensures { λ r. ⌜ r ≡ Def.aeMinusBd p ⌝ }
 {
     (p.a * p.e - p.b * p.d) / p.det

@@ -18,7 +18,7 @@ fn ratio(p: [f32; 3], q0: [f32; 3], d: [f32; 3]) -> f32
 }
 
 // That place on the segment q0 q1.
-pub fn place_on(p: [f32; 3], q0: [f32; 3], q1: [f32; 3]) -> [f32; 3]
+pub(crate) fn place_on(p: [f32; 3], q0: [f32; 3], q1: [f32; 3]) -> [f32; 3]
     ensures { λ r. ⌜ r ≡ Def.placeOn p q0 q1 ⌝ }
 {
     edge3::lerp(q0, q1, ratio(p, q0, vec3::sub(q1, q0)))

@@ -43,7 +43,8 @@ pub vec-more : (a b : ℕ) (v : List Float) → a ≤ b → VecWithin a v → Ve
 vec-more a b v l h j k = within-more a b (at v j) l (h j k)
 
 -- ---- differences, dot products, places along a vector
-pub minus-within : (a : ℕ) (u v : List Float) → suc a ≤ 127 → VecWithin a u → VecWithin a v → VecWithin (suc a) (minus u v)
+pub minus-within : (a : ℕ) (u v : List Float) → suc a ≤ 127 → VecWithin a u → VecWithin a v
+    → VecWithin (suc a) (minus u v)
 minus-within a u v l h k = vec-within (suc a) _ _ _ (one 0 (lit< tt)) (one 1 (lit< tt)) (one 2 (lit< tt))
   where
     one : (j : ℕ) → j < 3 → Within (suc a) (at u j ⊖ at v j)
@@ -52,8 +53,8 @@ minus-within a u v l h k = vec-within (suc a) _ _ _ (one 0 (lit< tt)) (one 1 (li
 pub dot-within : (a : ℕ) (u v : List Float) → suc (suc (a + a)) ≤ 127 → VecWithin a u → VecWithin a v
     → Within (suc (suc (a + a))) (dot u v)
 dot-within a u v l h k =
-    W.dot-within a (at u 0) (at u 1) (at u 2) (at v 0) (at v 1) (at v 2) l (h 0 (lit< tt)) (h 1 (lit< tt)) (h 2 (lit< tt))
-    (k 0 (lit< tt)) (k 1 (lit< tt)) (k 2 (lit< tt))
+    W.dot-within a (at u 0) (at u 1) (at u 2) (at v 0) (at v 1) (at v 2) l
+    (h 0 (lit< tt)) (h 1 (lit< tt)) (h 2 (lit< tt)) (k 0 (lit< tt)) (k 1 (lit< tt)) (k 2 (lit< tt))
 
 -- p + t v, for t from 0 to 1
 pub along-within : (a : ℕ) (p : List Float) (t : Float) (v : List Float) → suc a ≤ 127 → VecWithin a p → Within 0 t
@@ -95,8 +96,8 @@ scaled-within a b x s l h k =
         number j m = mul-within a b (at (col x i) j) s l (h i j n m) k
 
 -- a quarter of the sum of four
-quarter-within : (a : ℕ) (p q r s : Float) → suc (suc (suc a)) ≤ 127 → Within a p → Within a q → Within a r → Within a s
-    → Within (suc (suc (suc a))) (quarter p q r s)
+quarter-within : (a : ℕ) (p q r s : Float) → suc (suc (suc a)) ≤ 127 → Within a p → Within a q → Within a r
+    → Within a s → Within (suc (suc (suc a))) (quarter p q r s)
 quarter-within a p q r s l hp hq hr hs =
     subst (λ (b : ℕ). Within b (quarter p q r s)) (add-zero (suc (suc (suc a))))
     (mul-within (suc (suc (suc a))) 0 (p ⊕ q ⊕ r ⊕ s) (ofBits binary32 0x3e80_0000) (omega arith) sum
@@ -112,7 +113,8 @@ quarter-within a p q r s l hp hq hr hs =
 pub centred-within : (a : ℕ) (x : List (List Float)) → suc (suc (suc (suc a))) ≤ 127 → PointsWithin a x
     → PointsWithin (suc (suc (suc (suc a)))) (centred x)
 centred-within a x l h =
-    columns-within (suc (suc (suc (suc a)))) _ _ _ _ (one 0 (lit< tt)) (one 1 (lit< tt)) (one 2 (lit< tt)) (one 3 (lit< tt))
+    columns-within (suc (suc (suc (suc a)))) _ _ _ _
+    (one 0 (lit< tt)) (one 1 (lit< tt)) (one 2 (lit< tt)) (one 3 (lit< tt))
   where
     middle : (j : ℕ) → j < 3 → Within (suc (suc (suc a))) (mean x j)
     middle j m =

@@ -1,5 +1,6 @@
 -- Vectors of three numbers, and points of a pair (docs/01-scope.md, "What callers hand over"). A vector is the list of
--- its three numbers, the points of a pair the list of their four columns. Sums of three go left to right. Definitions only.
+-- its three numbers, the points of a pair the list of their four columns. Sums of three go left to right.
+-- Definitions only.
 use Prim.Native.Nat.{ℕ}
 use mathlib.Core.List.{List, [], _∷_}
 use lib.ListN.{getD}

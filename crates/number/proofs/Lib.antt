@@ -21,6 +21,7 @@ pub mod Later
 pub mod Sizes
 pub mod Finite
 pub mod Ranges
+pub mod Transitive
 pub mod NextUp
 pub mod SquareRoot
 pub mod Corners

@@ -2,20 +2,22 @@
 -- not finite; 2 exactly where all are and something lies beyond its range. Assumes nothing.
 use Prim.Native.Nat.{ℕ, zero, suc, _<_}
 use native.Mathlib.Omega.{arith}
-use mathlib.Core.Path.{_≡_, refl}
+use mathlib.Core.Path.{_≡_, refl, sym, subst}
 use mathlib.Core.Logic.{_⊎_, inl, inr, _↔_}
 use mathlib.Core.Bool.{Bool, true, false, not, _&&_, _||_}
 use mathlib.Core.List.{List}
 use lib.Dec.{T, eqb, eqb→eq}
 use lib.Ieee.{Float}
+use lib.Ieee.Bits.{is-true}
 use lib.Ieee.Fits.{and-i, and-l, and-r}
 use Rattle.number.specs.Range.{isFinite, inLimit, zeroToLimit, zeroToOne, speedRange}
-use Rattle.number.proofs.Within.{Within}
-use Rattle.number.proofs.Ranges.{in-limit}
+use Rattle.number.proofs.Within.{Within, within-finite}
+use Rattle.number.proofs.Finite.{is-finite}
+use Rattle.number.proofs.Ranges.{in-limit, zero-to-limit, zero-to-one, speed-range}
 use Rattle.geometry.specs.Vec3.{at, col}
 use Rattle.pair.specs.declared.record.Limits.{Limits}
 use Rattle.pair.specs.Admission.{refusal, ofThree, ofTwelve, finitePoints, limitPoints, isSplit, rangedLimits}
-use Rattle.pair.specs.Admission.{finiteWalk, rangedWalk, walkRefusal}
+use Rattle.pair.specs.Admission.{finiteLimits, finiteWalk, rangedWalk, walkRefusal}
 use Rattle.pair.specs.Admission.{pointsRefusal, splitRefusal, factorRefusal, timeRefusal, ratioRefusal}
 
 -- ---- the three numbers of a verdict
@@ -77,6 +79,45 @@ pub points-within : (x : List (List Float)) → T (limitPoints x)
 unfolding limitPoints
 points-within x h i j k l = in-limit (at (col x i) j) (twelve-each inLimit x h i j k l)
 
+-- ---- what lies in its range is finite
+pub within-real : (a : ℕ) (x : Float) → Within a x → T (isFinite x)
+within-real a x h = subst T (sym (is-finite x)) (within-finite a x h)
+
+limit-real : (x : Float) → T (inLimit x) → T (isFinite x)
+limit-real x h = within-real 20 x (in-limit x h)
+
+three-real : (v : List Float) → T (ofThree inLimit v) → T (ofThree isFinite v)
+three-real v h =
+    let t = triple (inLimit (at v 0)) (inLimit (at v 1)) (inLimit (at v 2)) h in
+    and-i (isFinite (at v 0) && isFinite (at v 1)) (isFinite (at v 2))
+    (and-i (isFinite (at v 0)) (isFinite (at v 1)) (limit-real (at v 0) (t .0)) (limit-real (at v 1) (t .1)))
+    (limit-real (at v 2) (t .2))
+
+points-real : (x : List (List Float)) → T (limitPoints x) → T (finitePoints x)
+unfolding limitPoints finitePoints
+points-real x h =
+    let range : ℕ → Bool = λ i. ofThree inLimit (col x i) in
+    let real : ℕ → Bool = λ i. ofThree isFinite (col x i) in
+    let q = quadruple (range 0) (range 1) (range 2) (range 3) h in
+    and-i (real 0 && real 1 && real 2) (real 3)
+    (and-i (real 0 && real 1) (real 2)
+    (and-i (real 0) (real 1) (three-real (col x 0) (q .0)) (three-real (col x 1) (q .1)))
+    (three-real (col x 2) (q .2))) (three-real (col x 3) (q .3))
+
+limits-real : (l : Limits) → T (rangedLimits l) → T (finiteLimits l)
+unfolding rangedLimits finiteLimits
+limits-real l h =
+    let o = l .offset in
+    let c = l .clearance in
+    let t = l .«max_t» in
+    let u = l .«u_max» in
+    let q = quadruple (zeroToLimit o) (zeroToLimit c) (zeroToOne t) (speedRange u) h in
+    and-i (isFinite o && isFinite c && isFinite t) (isFinite u)
+    (and-i (isFinite o && isFinite c) (isFinite t)
+    (and-i (isFinite o) (isFinite c) (within-real 20 o (zero-to-limit o (q .0) .1))
+    (within-real 20 c (zero-to-limit c (q .1) .1))) (within-real 0 t (zero-to-one t (q .2) .2)))
+    (within-real 60 u (speed-range u (q .3) .2))
+
 -- ---- the split
 pub split-parts : (split : ℕ) → T (isSplit split) → (split ≡ 2) ⊎ (split ≡ 3)
 split-parts split h = go (eqb split 2) (eqb split 3) (eqb→eq split 2) (eqb→eq split 3) h
@@ -115,6 +156,21 @@ module _ (x dx : List (List Float)) (split : ℕ) (l : Limits) where
         u-max = p .3;
         parts = split-parts split (q .3);
       }
+
+  pub walk-real : T (rangedWalk x dx split l) → T (finiteWalk x dx l)
+  walk-real h =
+      let q = quadruple (limitPoints x) (limitPoints dx) (rangedLimits l) (isSplit split) h in
+      and-i (finitePoints x && finitePoints dx) (finiteLimits l)
+      (and-i (finitePoints x) (finitePoints dx) (points-real x (q .0)) (points-real dx (q .1))) (limits-real l (q .2))
+
+  -- in its range: admitted; beyond it: the verdict on finite numbers alone
+  pub walk-none : rangedWalk x dx split l ≡ true → 0 ≡ walkRefusal x dx split l
+  unfolding walkRefusal
+  walk-none e = rw (is-true (finiteWalk x dx l) (walk-real (subst T (sym e) tt)), e)
+
+  pub walk-beyond : rangedWalk x dx split l ≡ false → refusal (finiteWalk x dx l) false ≡ walkRefusal x dx split l
+  unfolding walkRefusal
+  walk-beyond e = rw e
 
   pub walk-first : (walkRefusal x dx split l ≡ 1) ↔ T (not (finiteWalk x dx l))
   unfolding walkRefusal

@@ -14,8 +14,7 @@ use Rattle.number.specs.Number.{_⊖_, zero32, larger}
 use Rattle.number.specs.Range.{isFinite}
 use Rattle.number.specs.Root.{reaches, last, rootOf}
 use Rattle.number.proofs.Units.{plus}
-use Rattle.number.proofs.Within.{Within, within-finite, sub-within, dot-within}
-use Rattle.number.proofs.Finite.{is-finite}
+use Rattle.number.proofs.Within.{Within, sub-within, dot-within}
 use Rattle.number.proofs.Signs.{plus-up}
 use Rattle.number.proofs.Choice.{larger-keeps}
 use Rattle.number.proofs.SquareRoot.Theorem.{root-from}
@@ -27,7 +26,7 @@ use Rattle.pair.specs.Count.{count}
 use Rattle.pair.specs.Admission.{limitPoints, splitRefusal}
 use Rattle.pair.specs.Points.{admitted}
 use Rattle.pair.specs.Norm.{gapSquare, against, largestSquare, normOf, normed, refusalOf, valueOf}
-use Rattle.pair.proofs.Admitted.{points-within, split-admits}
+use Rattle.pair.proofs.Admitted.{within-real, points-within, split-admits}
 use Rattle.pair.proofs.Counting.{fold-keeps}
 
 -- what zero has and every cross pair's square, the largest square has
@@ -120,8 +119,7 @@ module _ (x : List (List Float)) (split : ℕ) where
   unfolding normed
   normed-real =
       value (splitRefusal x split) (normOf x split)
-      (λ e. subst T (sym (is-finite (normOf x split)))
-      (within-finite 22 (normOf x split) (norm-within x (split-admits x split e .0) split))) (norm-up x split)
+      (λ e. within-real 22 (normOf x split) (norm-within x (split-admits x split e .0) split)) (norm-up x split)
 
   -- the clauses of the public call
   pub with-number : (r : Normed) → r ≡ normed x split

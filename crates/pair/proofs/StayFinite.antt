@@ -9,8 +9,7 @@ use lib.Ieee.{Float, binary32, ofBits}
 use lib.Ieee.Fits.{and-i}
 use Rattle.number.specs.Number.{_⊕_, _⊖_, _⊗_, zero32}
 use Rattle.number.specs.Range.{isFinite, inLimit}
-use Rattle.number.proofs.Within.{Within, within-finite, within-more, add-within, sub-within, mul-within}
-use Rattle.number.proofs.Finite.{is-finite}
+use Rattle.number.proofs.Within.{Within, within-more, add-within, sub-within, mul-within}
 use Rattle.number.proofs.Ranges.{in-limit, zero-to-limit, zero-to-one}
 use Rattle.geometry.specs.Vec3.{at, col, vec}
 use Rattle.geometry.specs.Edge3.{lerpOf}
@@ -19,19 +18,15 @@ use Rattle.pair.specs.declared.points.Placed.{Placed}
 use Rattle.pair.specs.Admission.{ofThree, ofTwelve, finitePoints, limitPoints}
 use Rattle.pair.specs.Admission.{pointsRefusal, factorRefusal, timeRefusal, ratioRefusal}
 use Rattle.pair.specs.Points.{admitted, placed, movedInto, centredIn, scaledIn}
-use Rattle.pair.proofs.Admitted.{three-each, points-within}
+use Rattle.pair.proofs.Admitted.{within-real, three-each, points-within}
 use Rattle.pair.proofs.Admitted.{points-admits, factor-admits, time-admits, ratio-admits}
 use Rattle.pair.proofs.Taken.{taken}
-
--- a number within a power of two is finite
-within-is : (a : ℕ) (x : Float) → Within a x → T (isFinite x)
-within-is a x h = subst T (sym (is-finite x)) (within-finite a x h)
 
 -- three numbers, and twelve, given by place or by column and place, are finite if each is within a power of two
 three : (a : ℕ) (f : ℕ → Float) → ((j : ℕ) → j < 3 → Within a (f j))
     → T (isFinite (f 0) && isFinite (f 1) && isFinite (f 2))
 three a f h =
-    let real : (j : ℕ) → j < 3 → T (isFinite (f j)) = λ j l. within-is a (f j) (h j l) in
+    let real : (j : ℕ) → j < 3 → T (isFinite (f j)) = λ j l. within-real a (f j) (h j l) in
     and-i (isFinite (f 0) && isFinite (f 1)) (isFinite (f 2))
     (and-i (isFinite (f 0)) (isFinite (f 1)) (real 0 (lit< tt)) (real 1 (lit< tt))) (real 2 (lit< tt))
 

@@ -77,13 +77,17 @@ fn limits_ranged(limits: Limits) -> bool
         & range::speed_range(limits.u_max)
 }
 
-// The safe time: 24 numbers of a pair, its split, four limits.
+// The safe time: 24 numbers of a pair, its split, four limits. What lies in its range is finite, so that the ranges
+// alone are tested of what is admitted.
 pub fn admit_walk(x0: [[f32; 3]; 4], dx: [[f32; 3]; 4], split: usize, limits: Limits) -> u32
     ensures { λ r. ⌜ r ≡ Def.walkRefusal x0 dx split limits ⌝ }
 {
+    if points_in_limit(x0) & points_in_limit(dx) & limits_ranged(limits) & is_split(split) {
+        return 0;
+    }
     verdict(
         points_finite(x0) & points_finite(dx) & limits_finite(limits),
-        points_in_limit(x0) & points_in_limit(dx) & limits_ranged(limits) & is_split(split),
+        false,
     )
 }
 

@@ -45,7 +45,9 @@ pub fn point(v: [f32; 3]) {
     number(v[2]);
 }
 
+// Four points, on a line of their own.
 pub fn points(x: [[f32; 3]; 4]) {
+    text(b"\n ");
     let a = x[0];
     let b = x[1];
     let c = x[2];

@@ -10,7 +10,7 @@ use Rattle.number.proofs.Ranges.{in-limit, above-zero-to-one}
 use Rattle.polynomial_root.specs.Roots.{refused}
 use Rattle.polynomial_root.specs.Admission.{allowedQuadratic, allowedCubic, admitted}
 use Rattle.polynomial_root.specs.declared.answer.Roots.{Roots}
-use Rattle.polynomial_root.specs.declared.newton.Cubic.{Cubic}
+use Rattle.polynomial_root.specs.declared.cubic.Cubic.{Cubic}
 use Rattle.polynomial_root.proofs.Spans.{Allowed}
 
 -- ---- the tests of a call, taken apart

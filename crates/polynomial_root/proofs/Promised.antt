@@ -31,7 +31,7 @@ use Rattle.polynomial_root.specs.Admission.{finiteQuadratic, allowedQuad
 use Rattle.polynomial_root.specs.Called.{solvedRoots, quadraticRoot, cubicRootsInRange}
 use Rattle.polynomial_root.specs.Promises.{NoneOrTwo, reach}
 use Rattle.polynomial_root.specs.declared.answer.Roots.{Roots}
-use Rattle.polynomial_root.specs.declared.newton.Cubic.{Cubic}
+use Rattle.polynomial_root.specs.declared.cubic.Cubic.{Cubic}
 use Rattle.polynomial_root.specs.declared.quadratic.Solved.{Solved}
 use Rattle.polynomial_root.specs.declared.quadratic.Solved.the-variants.{Neither, Both}
 use Rattle.polynomial_root.proofs.Orders.{test-true, zero-in-range, written-in-range}
@@ -98,7 +98,7 @@ module _ (p : Cubic) (t epsilon : Float) (h : Allowed p t) where
       go true false = linear-holds f
       go false z = kept-holds (In t) t (λ r i. written-in-range t (h .above) r (test-true i)) roots
 
-  cubic-holds : T (fits binary32 (p .c0)) → Holds (In (reach p t)) (cubicRoots p t epsilon)
+  pub cubic-holds : T (fits binary32 (p .c0)) → Holds (In (reach p t)) (cubicRoots p t epsilon)
   unfolding cubicRoots
   cubic-holds f = go (vanishes (p .c3))
     where

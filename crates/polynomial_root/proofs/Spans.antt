@@ -13,7 +13,7 @@ use Rattle.polynomial_root.specs.Roots.{none}
 use Rattle.polynomial_root.specs.Newton.{valueAt, slopeAt, stepped, flat, descend}
 use Rattle.polynomial_root.specs.Spans.{endAt, oneSided, bothZero, secant, started, spanRoot}
 use Rattle.polynomial_root.specs.Cubic.{start, firstSpan, middleSpan, lastSpan, spanRoots, after}
-use Rattle.polynomial_root.specs.declared.newton.Cubic.{Cubic}
+use Rattle.polynomial_root.specs.declared.cubic.Cubic.{Cubic}
 use Rattle.polynomial_root.specs.declared.newton.Found.the-variants.{Root, Nothing, Refused}
 use Rattle.polynomial_root.specs.declared.quadratic.Solved.{Solved}
 use Rattle.polynomial_root.specs.declared.quadratic.Solved.the-variants.{Neither, Both}

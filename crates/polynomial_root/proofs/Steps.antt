@@ -6,7 +6,7 @@ use mathlib.Core.Bool.{true, false}
 use lib.Ieee.{Float, lt}
 use Rattle.number.specs.Number.{size}
 use Rattle.polynomial_root.specs.Newton.{valueAt, stepped, flat, descend}
-use Rattle.polynomial_root.specs.declared.newton.Cubic.{Cubic}
+use Rattle.polynomial_root.specs.declared.cubic.Cubic.{Cubic}
 use Rattle.polynomial_root.specs.declared.newton.Found.the-variants.{Root, Refused}
 
 pub no-step : (p : Cubic) (t epsilon r : Float) → descend p t epsilon 0 r ≡ Root r

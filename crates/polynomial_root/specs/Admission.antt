@@ -5,7 +5,7 @@ use lib.Ieee.{Float}
 use Rattle.number.specs.Range.{isFinite, inLimit, zeroToLimit, aboveZeroToOne}
 use Rattle.polynomial_root.specs.Roots.{refused}
 use Rattle.polynomial_root.specs.declared.answer.Roots.{Roots}
-use Rattle.polynomial_root.specs.declared.newton.Cubic.{Cubic}
+use Rattle.polynomial_root.specs.declared.cubic.Cubic.{Cubic}
 
 abbrev pub finiteQuadratic : Float → Float → Float → Bool
 finiteQuadratic c0 c1 c2 = isFinite c0 && isFinite c1 && isFinite c2

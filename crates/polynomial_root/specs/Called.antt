@@ -14,7 +14,7 @@ use Rattle.polynomial_root.specs.Admission.{
   admitted,
 }
 use Rattle.polynomial_root.specs.declared.answer.Roots.{Roots}
-use Rattle.polynomial_root.specs.declared.newton.Cubic.{Cubic}
+use Rattle.polynomial_root.specs.declared.cubic.Cubic.{Cubic}
 use Rattle.polynomial_root.specs.declared.quadratic.Solved.{Solved}
 use Rattle.polynomial_root.specs.declared.quadratic.Solved.the-variants.{Neither, Both}
 

@@ -10,7 +10,7 @@ use Rattle.polynomial_root.specs.Newton.{three32}
 use Rattle.polynomial_root.specs.Spans.{endAt, spanRoot}
 use Rattle.polynomial_root.specs.Lower.{vanishes, lowerRoots}
 use Rattle.polynomial_root.specs.declared.answer.Roots.{Roots}
-use Rattle.polynomial_root.specs.declared.newton.Cubic.{Cubic}
+use Rattle.polynomial_root.specs.declared.cubic.Cubic.{Cubic}
 use Rattle.polynomial_root.specs.declared.newton.Found.{Found}
 use Rattle.polynomial_root.specs.declared.newton.Found.the-variants.{Root, Nothing, Refused}
 use Rattle.polynomial_root.specs.declared.quadratic.Solved.{Solved}

@@ -9,7 +9,7 @@ use Rattle.polynomial_root.specs.Quadratic.{solved}
 use Rattle.polynomial_root.specs.Newton.{valueAt}
 use Rattle.polynomial_root.specs.Spans.{bothZero}
 use Rattle.polynomial_root.specs.declared.answer.Roots.{Roots}
-use Rattle.polynomial_root.specs.declared.newton.Cubic.{Cubic}
+use Rattle.polynomial_root.specs.declared.cubic.Cubic.{Cubic}
 use Rattle.polynomial_root.specs.declared.quadratic.Solved.{Solved}
 use Rattle.polynomial_root.specs.declared.quadratic.Solved.the-variants.{Neither, Both}
 

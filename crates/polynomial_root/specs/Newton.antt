@@ -5,7 +5,7 @@ use mathlib.Core.Bool.{Bool, cond, _&&_}
 use lib.Ieee.{Float, binary32, lt, eq, ofBits}
 use Rattle.number.specs.Number.{_⊕_, _⊖_, _⊗_, _⊘_, zero32, size, clamp}
 use Rattle.polynomial_root.specs.Quadratic.{two32}
-use Rattle.polynomial_root.specs.declared.newton.Cubic.{Cubic}
+use Rattle.polynomial_root.specs.declared.cubic.Cubic.{Cubic}
 use Rattle.polynomial_root.specs.declared.newton.Found.{Found}
 use Rattle.polynomial_root.specs.declared.newton.Found.the-variants.{Root, Refused}
 

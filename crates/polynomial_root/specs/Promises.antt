@@ -10,7 +10,7 @@ use Rattle.number.specs.Number.{zero32, one32}
 use Rattle.number.specs.Range.{between}
 use Rattle.polynomial_root.specs.Lower.{vanishes}
 use Rattle.polynomial_root.specs.declared.answer.Roots.{Roots}
-use Rattle.polynomial_root.specs.declared.newton.Cubic.{Cubic}
+use Rattle.polynomial_root.specs.declared.cubic.Cubic.{Cubic}
 
 -- at most three roots, the count is right, unused places are zero, and a refusal has no root
 pub record Tidy (a : Roots) : Type 0 where

@@ -4,7 +4,7 @@ use lib.Ieee.{Float, lt, eq}
 use Rattle.number.specs.Number.{_⊖_, _⊗_, _⊘_, zero32}
 use Rattle.number.specs.Range.{between}
 use Rattle.polynomial_root.specs.Newton.{valueAt, descend}
-use Rattle.polynomial_root.specs.declared.newton.Cubic.{Cubic}
+use Rattle.polynomial_root.specs.declared.cubic.Cubic.{Cubic}
 use Rattle.polynomial_root.specs.declared.newton.Found.{Found}
 use Rattle.polynomial_root.specs.declared.newton.Found.the-variants.{Root, Nothing, Refused}
 use Rattle.polynomial_root.specs.declared.span.End.{End}

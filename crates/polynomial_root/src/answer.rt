@@ -3,6 +3,7 @@ ghost use mathlib.Core.Path.{_≡_};
 ghost use Rattle.polynomial_root.specs.Roots as Def;
 
 // The roots in the first `count` places, zero in the others; `refusal` 0, or the number of a refusal and no root.
+#[repr(C)]
 pub struct Roots {
     pub refusal: u32,
     pub count: u32,
@@ -20,14 +21,14 @@ pub fn refused(number: u32) -> Roots
 }
 
 // A root as it is answered: a zero of either sign is written plus zero.
-pub fn written(r: f32) -> f32
+pub(crate) fn written(r: f32) -> f32
     ensures { λ w. ⌜ w ≡ Def.written r ⌝ }
 {
     if r == 0.0 { 0.0 } else { r }
 }
 
 // One root more, in the next place; a full answer stands.
-pub fn push(a: Roots, r: f32) -> Roots
+pub(crate) fn push(a: Roots, r: f32) -> Roots
     ensures { λ b. ⌜ b ≡ Def.push a r ⌝ }
 {
     let n = a.count;

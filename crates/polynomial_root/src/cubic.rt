@@ -7,7 +7,6 @@ use crate::answer::push;
 use crate::answer::refused;
 use crate::lower::lower_roots;
 use crate::lower::vanishes;
-use crate::newton::Cubic;
 use crate::newton::Found;
 use crate::quadratic::Solved;
 use crate::quadratic::solve;
@@ -16,6 +15,14 @@ use crate::span::end_at;
 use crate::span::span_root;
 use number::order::larger;
 use number::order::smaller;
+
+// c0 + c1 x + c2 x² + c3 x³
+pub struct Cubic {
+    pub c0: f32,
+    pub c1: f32,
+    pub c2: f32,
+    pub c3: f32,
+}
 
 // The answer with what one more span gave.
 fn joined(a: Roots, f: Found) -> Roots

@@ -1,12 +1,12 @@
 // Roots of polynomials of degree two and three (polynomial_root.rs; docs/01-scope.md, "Roots"). The two functions here
 // refuse what is out of range; the modules hold what they rest on, for any numbers.
-pub mod admission;
+mod admission;
 pub mod answer;
 pub mod cubic;
-pub mod lower;
-pub mod newton;
-pub mod quadratic;
-pub mod span;
+mod lower;
+mod newton;
+mod quadratic;
+mod span;
 
 ghost use mathlib.Core.Path.{_≡_};
 ghost use Rattle.polynomial_root.specs.Newton.{cubicOf};
@@ -18,7 +18,7 @@ use admission::finite_cubic;
 use admission::finite_quadratic;
 use answer::Roots;
 use answer::refused;
-use newton::Cubic;
+use cubic::Cubic;
 
 // The roots of c0 + c1 x + c2 x²: none or two, the smaller first. Refusals 1, 2, 9.
 pub fn quadratic_root(c0: f32, c1: f32, c2: f32) -> Roots

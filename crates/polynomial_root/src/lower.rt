@@ -5,7 +5,7 @@ ghost use Rattle.polynomial_root.specs.Lower as Def;
 use crate::answer::Roots;
 use crate::answer::push;
 use crate::answer::refused;
-use crate::newton::Cubic;
+use crate::cubic::Cubic;
 use crate::newton::value_at;
 use crate::quadratic::Solved;
 use crate::quadratic::solve;

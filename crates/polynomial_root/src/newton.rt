@@ -1,16 +1,9 @@
 // Newton's steps on a cubic (polynomial_root.rs, `eval_f` and the loop of `newton`).
 ghost use mathlib.Core.Path.{_≡_};
 ghost use Rattle.polynomial_root.specs.Newton as Def;
+use crate::cubic::Cubic;
 use number::order::clamp;
 use number::order::size;
-
-// c0 + c1 x + c2 x² + c3 x³
-pub struct Cubic {
-    pub c0: f32,
-    pub c1: f32,
-    pub c2: f32,
-    pub c3: f32,
-}
 
 // What a search for one root gives: the root, none, or the number of a refusal.
 pub enum Found {

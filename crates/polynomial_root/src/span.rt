@@ -1,7 +1,7 @@
 // The root in a span of 0..t (polynomial_root.rs, `newton`).
 ghost use mathlib.Core.Path.{_≡_};
 ghost use Rattle.polynomial_root.specs.Spans as Def;
-use crate::newton::Cubic;
+use crate::cubic::Cubic;
 use crate::newton::Found;
 use crate::newton::descend;
 use crate::newton::value_at;

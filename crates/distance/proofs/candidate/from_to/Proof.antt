@@ -13,7 +13,11 @@ use Rattle.distance.proofs.candidate.from_to.Tie as tie
 made : (n : ℕ) (p q w : List Float) (s : Float) → w ≡ minus q p → s ≡ dot w w
     → _≡_ {A = Nearest} (record { squared = s; direction = w; candidate = n }) (fromTo n p q)
 unfolding fromTo
-made n p q w s e f = λ i. record { squared = (f ∙ ap (λ (v : List Float). dot v v) e) i; direction = e i; candidate = n }
+made n p q w s e f = λ i. record {
+  squared = (f ∙ ap (λ (v : List Float). dot v v) e) i;
+  direction = e i;
+  candidate = n;
+}
 
 returns : tie.Need-returns
 returns c = made _ _ _ _ _ (c .before .sub .ensures) (c .dot .ensures)

@@ -9,8 +9,8 @@ use Rattle.number.specs.Number.{smaller}
 use Rattle.distance.specs.declared.candidate.Nearest.{Nearest}
 use Rattle.distance.specs.Candidate.{nearer, nearestFrom, firstSmallest, only}
 use Rattle.distance.specs.EdgeEdge.{edgeEdge}
-use Rattle.distance.proofs.Choice.{takes, keeps, least, takes-last, keeps-last}
-use Rattle.distance.proofs.EdgeChoice.{Ends, Inner, found}
+use Rattle.distance.proofs.Choice.{nearer-takes, nearer-stays, nearer-least, last-taken, last-passed}
+use Rattle.distance.proofs.EdgeChoice.{Ends, Inner, edges-found}
 use Rattle.distance.proofs.edge_edge.edge_edge.Statement.{statement}
 use Rattle.distance.proofs.edge_edge.edge_edge.Tie as tie
 
@@ -48,44 +48,44 @@ module _ (x0 x1 x2 x3 : List Float) (g : Given x0 x1 x2 x3) where
   n3 = nearer n2 c3
 
   is-n1 : least1 ≡ n1 .squared
-  is-n1 = least c0 c1 (c0 .squared) refl least1 (g .is-least1)
+  is-n1 = nearer-least c0 c1 (c0 .squared) refl least1 (g .is-least1)
 
   is-n2 : least2 ≡ n2 .squared
-  is-n2 = least n1 c2 least1 is-n1 least2 (g .is-least2)
+  is-n2 = nearer-least n1 c2 least1 is-n1 least2 (g .is-least2)
 
   is-n3 : least3 ≡ n3 .squared
-  is-n3 = least n2 c3 least2 is-n2 least3 (g .is-least3)
+  is-n3 = nearer-least n2 c3 least2 is-n2 least3 (g .is-least3)
 
   all : nearestFrom n3 (only meet inner) ≡ Answer
   unfolding nearestFrom
-  all = found x0 x1 x2 x3 c0 c1 c2 c3 inner meet (g .ends) (g .interior)
+  all = edges-found x0 x1 x2 x3 c0 c1 c2 c3 inner meet (g .ends) (g .interior)
 
   inner-answered : meet && lt (inner .squared) least3 ≡ true → inner ≡ Answer
-  inner-answered t = takes-last n3 inner least3 is-n3 meet t ∙ all
+  inner-answered t = last-taken n3 inner least3 is-n3 meet t ∙ all
 
   module _ (not-inner : meet && lt (inner .squared) least3 ≡ false) where
     n3-answered : n3 ≡ Answer
-    n3-answered = keeps-last n3 inner least3 is-n3 meet not-inner ∙ all
+    n3-answered = last-passed n3 inner least3 is-n3 meet not-inner ∙ all
 
     c3-answered : lt (c3 .squared) least2 ≡ true → c3 ≡ Answer
-    c3-answered t = takes n2 c3 least2 is-n2 t ∙ n3-answered
+    c3-answered t = nearer-takes n2 c3 least2 is-n2 t ∙ n3-answered
 
     module _ (not-c3 : lt (c3 .squared) least2 ≡ false) where
       n2-answered : n2 ≡ Answer
-      n2-answered = keeps n2 c3 least2 is-n2 not-c3 ∙ n3-answered
+      n2-answered = nearer-stays n2 c3 least2 is-n2 not-c3 ∙ n3-answered
 
       c2-answered : lt (c2 .squared) least1 ≡ true → c2 ≡ Answer
-      c2-answered t = takes n1 c2 least1 is-n1 t ∙ n2-answered
+      c2-answered t = nearer-takes n1 c2 least1 is-n1 t ∙ n2-answered
 
       module _ (not-c2 : lt (c2 .squared) least1 ≡ false) where
         n1-answered : n1 ≡ Answer
-        n1-answered = keeps n1 c2 least1 is-n1 not-c2 ∙ n2-answered
+        n1-answered = nearer-stays n1 c2 least1 is-n1 not-c2 ∙ n2-answered
 
         c1-answered : lt (c1 .squared) (c0 .squared) ≡ true → c1 ≡ Answer
-        c1-answered t = takes c0 c1 (c0 .squared) refl t ∙ n1-answered
+        c1-answered t = nearer-takes c0 c1 (c0 .squared) refl t ∙ n1-answered
 
         c0-answered : lt (c1 .squared) (c0 .squared) ≡ false → c0 ≡ Answer
-        c0-answered t = keeps c0 c1 (c0 .squared) refl t ∙ n1-answered
+        c0-answered t = nearer-stays c0 c1 (c0 .squared) refl t ∙ n1-answered
 
 abbrev given : (c : tie.After-edges-meet)
     → Given

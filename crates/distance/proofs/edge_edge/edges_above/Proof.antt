@@ -1,14 +1,14 @@
 -- `distance::edge_edge::edges_above` meets its contract: the interior candidate settles it, or all the others do.
 -- Assumes nothing.
 use borrow.Author.Needs.{needs}
-use Rattle.distance.proofs.EdgeChoice.{above, reached}
+use Rattle.distance.proofs.EdgeChoice.{edges-above, edges-reached}
 use Rattle.distance.proofs.edge_edge.edges_above.Statement.{statement}
 use Rattle.distance.proofs.edge_edge.edges_above.Tie as tie
 
 returns : tie.Need-returns
 returns c =
     let meet = c .before .before in
-    reached _ _ _ _ _ _ (record {
+    edges-reached _ _ _ _ _ _ (record {
       p = meet .before .before .edge-products .result;
       is-p = meet .before .before .edge-products .ensures;
       is-inner = meet .before .interior .ensures;
@@ -22,7 +22,7 @@ returns-2 c =
     let end1 = end2 .before in
     let end0 = end1 .before in
     let meet = end0 .before .before .before in
-    above _ _ _ _ _ _ _ _ _ _
+    edges-above _ _ _ _ _ _ _ _ _ _
     (record {
       is-c0 = end0 .point-segment .ensures;
       is-c1 = end1 .point-segment2 .ensures;

@@ -1,14 +1,14 @@
 -- `distance::face_vertex::face_above` meets its contract: the interior candidate settles it, or all the others do.
 -- Assumes nothing.
 use borrow.Author.Needs.{needs}
-use Rattle.distance.proofs.FaceChoice.{above, reached}
+use Rattle.distance.proofs.FaceChoice.{face-above, face-reached}
 use Rattle.distance.proofs.face_vertex.face_above.Statement.{statement}
 use Rattle.distance.proofs.face_vertex.face_above.Tie as tie
 
 returns : tie.Need-returns
 returns c =
     let over = c .before .before in
-    reached _ _ _ _ _ _ (record {
+    face-reached _ _ _ _ _ _ (record {
       p = over .before .before .face-products .result;
       is-p = over .before .before .face-products .ensures;
       is-inner = over .before .interior .ensures;
@@ -21,7 +21,7 @@ returns-2 c =
     let edge1 = edge2 .before in
     let edge0 = edge1 .before in
     let over = edge0 .before .before .before in
-    above _ _ _ _ _ _ _ _ _
+    face-above _ _ _ _ _ _ _ _ _
     (record {
       is-c0 = edge0 .segment-point .ensures;
       is-c1 = edge1 .segment-point2 .ensures;

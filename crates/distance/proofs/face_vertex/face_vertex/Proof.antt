@@ -1,5 +1,5 @@
--- `distance::face_vertex::face_vertex` meets its contract: what it answers is the last candidate that is nearer than all
--- before it, which is the first smallest. Assumes nothing.
+-- `distance::face_vertex::face_vertex` meets its contract: what it answers is the last candidate that is nearer than
+-- all before it, which is the first smallest. Assumes nothing.
 use borrow.Author.Needs.{needs}
 use mathlib.Core.Path.{_≡_, refl, _∙_}
 use mathlib.Core.Bool.{Bool, true, false, _&&_}
@@ -9,8 +9,8 @@ use Rattle.number.specs.Number.{smaller}
 use Rattle.distance.specs.declared.candidate.Nearest.{Nearest}
 use Rattle.distance.specs.Candidate.{nearer, nearestFrom, firstSmallest, only}
 use Rattle.distance.specs.FaceVertex.{faceVertex}
-use Rattle.distance.proofs.Choice.{takes, keeps, least, takes-last, keeps-last}
-use Rattle.distance.proofs.FaceChoice.{Rim, Inner, found}
+use Rattle.distance.proofs.Choice.{nearer-takes, nearer-stays, nearer-least, last-taken, last-passed}
+use Rattle.distance.proofs.FaceChoice.{Rim, Inner, face-found}
 use Rattle.distance.proofs.face_vertex.face_vertex.Statement.{statement}
 use Rattle.distance.proofs.face_vertex.face_vertex.Tie as tie
 
@@ -42,34 +42,34 @@ module _ (x0 x1 x2 x3 : List Float) (g : Given x0 x1 x2 x3) where
   n2 = nearer n1 c2
 
   is-n1 : least1 ≡ n1 .squared
-  is-n1 = least c0 c1 (c0 .squared) refl least1 (g .is-least1)
+  is-n1 = nearer-least c0 c1 (c0 .squared) refl least1 (g .is-least1)
 
   is-n2 : least2 ≡ n2 .squared
-  is-n2 = least n1 c2 least1 is-n1 least2 (g .is-least2)
+  is-n2 = nearer-least n1 c2 least1 is-n1 least2 (g .is-least2)
 
   all : nearestFrom n2 (only over inner) ≡ Answer
   unfolding nearestFrom
-  all = found x0 x1 x2 x3 c0 c1 c2 inner over (g .rim) (g .interior)
+  all = face-found x0 x1 x2 x3 c0 c1 c2 inner over (g .rim) (g .interior)
 
   inner-answered : over && lt (inner .squared) least2 ≡ true → inner ≡ Answer
-  inner-answered t = takes-last n2 inner least2 is-n2 over t ∙ all
+  inner-answered t = last-taken n2 inner least2 is-n2 over t ∙ all
 
   module _ (not-inner : over && lt (inner .squared) least2 ≡ false) where
     n2-answered : n2 ≡ Answer
-    n2-answered = keeps-last n2 inner least2 is-n2 over not-inner ∙ all
+    n2-answered = last-passed n2 inner least2 is-n2 over not-inner ∙ all
 
     c2-answered : lt (c2 .squared) least1 ≡ true → c2 ≡ Answer
-    c2-answered t = takes n1 c2 least1 is-n1 t ∙ n2-answered
+    c2-answered t = nearer-takes n1 c2 least1 is-n1 t ∙ n2-answered
 
     module _ (not-c2 : lt (c2 .squared) least1 ≡ false) where
       n1-answered : n1 ≡ Answer
-      n1-answered = keeps n1 c2 least1 is-n1 not-c2 ∙ n2-answered
+      n1-answered = nearer-stays n1 c2 least1 is-n1 not-c2 ∙ n2-answered
 
       c1-answered : lt (c1 .squared) (c0 .squared) ≡ true → c1 ≡ Answer
-      c1-answered t = takes c0 c1 (c0 .squared) refl t ∙ n1-answered
+      c1-answered t = nearer-takes c0 c1 (c0 .squared) refl t ∙ n1-answered
 
       c0-answered : lt (c1 .squared) (c0 .squared) ≡ false → c0 ≡ Answer
-      c0-answered t = keeps c0 c1 (c0 .squared) refl t ∙ n1-answered
+      c0-answered t = nearer-stays c0 c1 (c0 .squared) refl t ∙ n1-answered
 
 abbrev given : (c : tie.After-over-face)
     → Given

@@ -1,7 +1,7 @@
 -- `distance::segment::ratio` meets its contract, by either way through its test. Assumes nothing.
 use borrow.Author.Needs.{needs}
-use mathlib.Core.Path.{_≡_, sym, ap, _∙_}
-use mathlib.Core.Bool.{Bool, true, false, cond}
+use mathlib.Core.Path.{_≡_, ap, _∙_}
+use mathlib.Core.Bool.{true, false}
 use mathlib.Core.List.{List}
 use lib.Ieee.{Float, eq}
 use Rattle.number.specs.Number.{_⊘_, zero32, one32, clamp}

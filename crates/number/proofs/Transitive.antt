@@ -1,29 +1,17 @@
 -- The order of f32 values, infinities, either zero and NaN included: it is transitive, and nothing is below itself.
 -- Assumes nothing.
-use mathlib.Core.Path.{_≡_, sym, ap, _∙_, subst}
-use mathlib.Core.Logic.{_⊎_, inl, inr}
-use mathlib.Core.Bool.{Bool, true, false, not, _&&_, _||_, Bool·beq}
-use Prim.Native.Nat.{ℕ, zero, suc, _+_, _*_, _≤_, _<_}
-use native.Mathlib.Nat.{
-  le-of-eq,
-  le-of-lt,
-  lt-of-le-of-lt,
-  lt-of-lt-of-le,
-  lt-irrefl,
-  mul-right-comm,
-  mul-pos,
-  mul-le-mul-right,
-  mul-lt-mul-of-pos-right,
-  lt-of-mul-lt-mul-right,
-  eq-zero-or-pos,
-  zero-mul,
-}
+use mathlib.Core.Path.{_≡_, sym, ap, _∙_}
+use mathlib.Core.Logic.{inl, inr}
+use mathlib.Core.Bool.{Bool, true, false, not, _||_}
+use Prim.Native.Nat.{ℕ, _+_, _*_, _≤_, _<_}
+use native.Mathlib.Nat.{le-trans, le-of-eq, lt-of-le-of-lt, lt-of-lt-of-le, lt-irrefl, eq-zero-or-pos, zero-mul}
+use native.Mathlib.Nat.{mul-right-comm, mul-pos, mul-le-mul-right, mul-lt-mul-of-pos-right, lt-of-mul-lt-mul-right}
 use native.Mathlib.Omega.{arith}
-use lib.Dec.{T, ltb, eqb, ltb→lt, lt→ltb, eqb→eq}
-use lib.Ieee.{Float, nan, inf, fin, up, down, lt, le, eq, isNan, below, level}
+use lib.Dec.{T, eqb, ltb→lt, lt→ltb, eqb→eq}
+use lib.Ieee.{Float, nan, inf, fin, up, down, lt, le, below, level}
 use lib.Ieee.Fits.{down-pos, and-l, and-r}
 use Rattle.number.proofs.Signs.{le-of-tests}
 use Rattle.number.proofs.Comparing.{lt-le as lt-le-float}
 
 -- ---- fractions X / p, Y / q, Z / k
 module _ (X p Y q Z k : ℕ) where
@@ -38,34 +26,41 @@ module _ (X p Y q Z k : ℕ) where
   lt-le K l h =
       lt-of-mul-lt-mul-right q
       (lt-of-le-of-lt (le-of-eq (mul-right-comm X k q)) (lt-of-lt-of-le (mul-lt-mul-of-pos-right l K)
-      (le-trans' (le-of-eq (mul-right-comm Y p k)) (mul-le-mul-right p h) (le-of-eq (mul-right-comm Z q p)))))
-    where
-      le-trans' : {a b c d : ℕ} → a ≤ b → b ≤ c → c ≤ d → a ≤ d
-      le-trans' x y z = omega arith
+      (le-trans (le-of-eq (mul-right-comm Y p k))
+      (le-trans (mul-le-mul-right p h) (le-of-eq (mul-right-comm Z q p))))))
 
--- a product with a factor above zero is above zero where the other factor is
-factor-pos : (a b : ℕ) → 0 < a * b → 0 < a
-factor-pos a b h = elim (eq-zero-or-pos a) [
-  | inl z ↦ absurd (none b (subst (λ (x : ℕ). 0 < x * b) z h))
-  | inr l ↦ l
+-- ---- numerators that are zero, or not, over one denominator or another
+no-pos : (n : ℕ) → 0 < n → n ≡ 0 → ⊥
+no-pos n l e = omega arith
+
+same-pos : (a b c : ℕ) → 0 < c → 0 < a * b → 0 < a * c
+same-pos a b c C h = elim (eq-zero-or-pos a) [
+  | inl z ↦ absurd (no-pos (a * b) h (ap (λ (x : ℕ). x * b) z ∙ zero-mul b))
+  | inr l ↦ mul-pos l C
 ]
-  where
-    none : (b : ℕ) → 0 < 0 * b → ⊥
-    none b h = omega arith
 
-no-factor : (a b c : ℕ) → 0 < b → a * b ≡ 0 → a * c ≡ 0
-no-factor a b c B h = elim (eq-zero-or-pos a) [
+same-none : (a b c : ℕ) → 0 < b → a * b ≡ 0 → a * c ≡ 0
+same-none a b c B h = elim (eq-zero-or-pos a) [
   | inl z ↦ ap (λ (x : ℕ). x * c) z ∙ zero-mul c
-  | inr l ↦ absurd (none (a * b) (mul-pos l B) h)
+  | inr l ↦ absurd (no-pos (a * b) (mul-pos l B) h)
 ]
-  where
-    none : (n : ℕ) → 0 < n → n ≡ 0 → ⊥
-    none n l e = omega arith
 
-other-pos : (a b c : ℕ) → 0 < c → 0 < a * b → 0 < a * c
-other-pos a b c C h = mul-pos (factor-pos a b h) C
+left-pos : (a b : ℕ) → 0 < a → 0 < a + b
+left-pos a b h = omega arith
 
--- what `le` says of two finite values by their signs
+right-pos : (a b : ℕ) → 0 < b → 0 < a + b
+right-pos a b h = omega arith
+
+rest-pos : (a b : ℕ) → a ≡ 0 → 0 < a + b → 0 < b
+rest-pos a b e h = omega arith
+
+above-pos : (a b : ℕ) → a < b → 0 < b
+above-pos a b h = omega arith
+
+none-below : (a b : ℕ) → a ≡ 0 → 0 < b → a < b
+none-below a b e h = omega arith
+
+-- ---- what `le` says of two finite values, by their signs
 Says : Bool → ℕ → Bool → ℕ → Type 0
 Says false a false b = a ≤ b
 Says false a true b = (a ≡ 0) × (b ≡ 0)
@@ -81,50 +76,28 @@ le-says false true a b h =
 le-says true false a b h = tt
 le-says true true a b h = le-of-tests b a (eqb a b) (λ e. sym (eqb→eq a b e)) h
 
+-- X / p not above Y / q, which is below Z / k, with the signs s, t and r
 module _ (X p Y q Z k : ℕ) (P : 0 < p) (Q : 0 < q) (K : 0 < k) where
-  -- X / p not above Y / q, which is below Z / k, with the signs s, t and r
-  says-below : (s t r : Bool) → Says s (X * q) t (Y * p) → T (below t (Y * k) r (Z * q)) → T (below s (X * k) r (Z * p))
+  says-below : (s t r : Bool) → Says s (X * q) t (Y * p) → T (below t (Y * k) r (Z * q))
+      → T (below s (X * k) r (Z * p))
   unfolding Says
   says-below false false false h l = lt→ltb (X * k) (Z * p) (le-lt X p Y q Z k P h (ltb→lt (Y * k) (Z * q) l))
   says-below false false true h l = absurd l
   says-below false true false h l =
-      let x : X * k ≡ 0 = no-factor X q k Q (h .0) in
-      let y : Y * k ≡ 0 = no-factor Y p k P (h .1) in
-      let z : 0 < Z * p = other-pos Z q p P (right (Y * k) (Z * q) y (ltb→lt 0 (Y * k + Z * q) l)) in
-      lt→ltb (X * k) (Z * p) (from-zero (X * k) (Z * p) x z)
-    where
-      right : (a b : ℕ) → a ≡ 0 → 0 < a + b → 0 < b
-      right a b e h = omega arith
-
-      from-zero : (a b : ℕ) → a ≡ 0 → 0 < b → a < b
-      from-zero a b e h = omega arith
-  says-below false true true h l = none (Y * k) (Z * q) (no-factor Y p k P (h .1)) (ltb→lt (Z * q) (Y * k) l)
-    where
-      none : (a b : ℕ) → a ≡ 0 → b < a → ⊥
-      none a b e h = omega arith
+      let none : Y * k ≡ 0 = same-none Y p k P (h .1) in
+      lt→ltb (X * k) (Z * p) (none-below (X * k) (Z * p) (same-none X q k Q (h .0))
+      (same-pos Z q p P (rest-pos (Y * k) (Z * q) none (ltb→lt 0 (Y * k + Z * q) l))))
+  says-below false true true h l =
+      no-pos (Y * k) (above-pos (Z * q) (Y * k) (ltb→lt (Z * q) (Y * k) l)) (same-none Y p k P (h .1))
   says-below true false false h l =
       lt→ltb 0 (X * k + Z * p)
-      (more (X * k) (Z * p) (other-pos Z q p P (above (Y * k) (Z * q) (ltb→lt (Y * k) (Z * q) l))))
-    where
-      above : (a b : ℕ) → a < b → 0 < b
-      above a b h = omega arith
-
-      more : (a b : ℕ) → 0 < b → 0 < a + b
-      more a b h = omega arith
+      (right-pos (X * k) (Z * p) (same-pos Z q p P (above-pos (Y * k) (Z * q) (ltb→lt (Y * k) (Z * q) l))))
   says-below true false true h l = absurd l
   says-below true true false h l = lt→ltb 0 (X * k + Z * p) (elim (eq-zero-or-pos (Y * k)) [
-    | inl y ↦ more (X * k) (Z * p) (other-pos Z q p P (right (Y * k) (Z * q) y (ltb→lt 0 (Y * k + Z * q) l)))
-    | inr y ↦ more' (X * k) (Z * p) (other-pos X q k K (lt-of-lt-of-le (other-pos Y k p P y) h))
+    | inl none ↦ right-pos (X * k) (Z * p)
+        (same-pos Z q p P (rest-pos (Y * k) (Z * q) none (ltb→lt 0 (Y * k + Z * q) l)))
+    | inr some ↦ left-pos (X * k) (Z * p) (same-pos X q k K (lt-of-lt-of-le (same-pos Y k p P some) h))
   ])
-    where
-      right : (a b : ℕ) → a ≡ 0 → 0 < a + b → 0 < b
-      right a b e h = omega arith
-
-      more : (a b : ℕ) → 0 < b → 0 < a + b
-      more a b h = omega arith
-
-      more' : (a b : ℕ) → 0 < a → 0 < a + b
-      more' a b h = omega arith
   says-below true true true h l = lt→ltb (Z * p) (X * k) (lt-le Z k Y q X p P (ltb→lt (Z * q) (Y * k) l) h)
 
 -- ---- the order is transitive
