@@ -1,0 +1,24 @@
+// One call of each public function, by its number: the arguments are taken out of the bytes of the call, and the answer
+// is put into the bytes of the answer, which are zeros until then.
+use crate::points;
+use crate::roots;
+use crate::safe_time;
+use crate::scaling;
+
+pub fn answer(function: u32, call: &[u8], out: &mut [u8]) {
+    match function {
+        1 => roots::square_root(call, out),
+        2 => points::lerp(call, out),
+        3 => points::add_scaled(call, out),
+        4 => points::centerize(call, out),
+        5 => points::scale_in_place(call, out),
+        6 => points::squared_distance(call, out),
+        7 => points::max_relative_norm(call, out),
+        8 => scaling::normalize(call, out),
+        9 => roots::quadratic_root(call, out),
+        10 => roots::cubic_roots(call, out),
+        11 => roots::coplanar_time(call, out),
+        12 => safe_time::maximum_safe_time(call, out),
+        _ => {}
+    }
+}

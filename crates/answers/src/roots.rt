@@ -1,0 +1,43 @@
+// Calls of the square root and of the root finders.
+use crate::words;
+use number::root;
+use number::root::Rooted;
+use pair::coplanar;
+use polynomial_root::answer::Roots;
+
+pub fn square_root(call: &[u8], out: &mut [u8]) {
+    match root::square_root(words::number(call, 4)) {
+        Rooted::Root(x) => words::put_number(out, 4, x),
+        Rooted::Refused(refusal) => words::put(out, 0, refusal),
+    }
+}
+
+fn put_roots(out: &mut [u8], answer: Roots) {
+    let roots = answer.roots;
+    words::put(out, 0, answer.refusal);
+    words::put(out, 4, answer.count);
+    words::put_point(out, 8, roots);
+}
+
+pub fn quadratic_root(call: &[u8], out: &mut [u8]) {
+    let c = words::point(call, 4);
+    put_roots(out, polynomial_root::quadratic_root(c[0], c[1], c[2]));
+}
+
+pub fn cubic_roots(call: &[u8], out: &mut [u8]) {
+    let c = words::point(call, 4);
+    let c3 = words::number(call, 16);
+    let t = words::number(call, 20);
+    let epsilon = words::number(call, 24);
+    put_roots(
+        out,
+        polynomial_root::cubic_roots_in_range_zero_to_t(c[0], c[1], c[2], c3, t, epsilon),
+    );
+}
+
+pub fn coplanar_time(call: &[u8], out: &mut [u8]) {
+    put_roots(
+        out,
+        coplanar::coplanar_time_mat3x4(words::points(call, 4), words::points(call, 52)),
+    );
+}

@@ -1,0 +1,45 @@
+// Calls of the safe time.
+use crate::words;
+use ccd3::Answer;
+use ccd3::safe_time;
+use pair::record::Limits;
+
+// The kind and the time, or the refusal.
+fn put_answer(out: &mut [u8], answer: Answer) {
+    match answer {
+        Answer::Touching(time) => put_time(out, 0, time),
+        Answer::Contact(time) => put_time(out, 1, time),
+        Answer::Clear(time) => put_time(out, 2, time),
+        Answer::Budget(time) => put_time(out, 3, time),
+        Answer::Refused(refusal) => put_refusal(out, refusal),
+    }
+}
+
+fn put_time(out: &mut [u8], kind: u32, time: f32) {
+    words::put(out, 4, kind);
+    words::put_number(out, 8, time);
+}
+
+fn put_refusal(out: &mut [u8], refusal: u32) {
+    words::put(out, 0, refusal);
+    words::put(out, 4, 4);
+}
+
+pub fn maximum_safe_time(call: &[u8], out: &mut [u8]) {
+    let limits = Limits {
+        offset: words::number(call, 104),
+        clearance: words::number(call, 108),
+        max_t: words::number(call, 112),
+        u_max: words::number(call, 116),
+    };
+    let safe = safe_time::maximum_safe_time_accurate(
+        words::points(call, 4),
+        words::points(call, 52),
+        words::split(call, 100),
+        limits,
+    );
+    let answer = safe.answer;
+    put_answer(out, answer);
+    words::put(out, 12, safe.probes);
+    words::put(out, 16, safe.halvings);
+}

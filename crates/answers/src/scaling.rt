@@ -1,0 +1,24 @@
+// Calls of `normalize_centerized_configuration`, which scales a lent pair.
+use crate::words;
+use pair::record;
+use pair::scaling;
+use pair::scaling::Scaling;
+
+fn put_answer(out: &mut [u8], answer: Scaling) {
+    match answer {
+        Scaling::Factor(x) => words::put_number(out, 4, x),
+        Scaling::Refused(refusal) => words::put(out, 0, refusal),
+    }
+}
+
+pub fn normalize(call: &[u8], out: &mut [u8]) {
+    let scaled = scaling::after_scaling(
+        record::pair_of(words::points(call, 4), words::points(call, 52)),
+        words::number(call, 100),
+    );
+    let answer = scaled.answer;
+    put_answer(out, answer);
+    let left = scaled.pair;
+    words::put_points(out, 8, record::x_of(left));
+    words::put_points(out, 56, record::dx_of(left));
+}

@@ -1,0 +1,112 @@
+// Words of four bytes, little-endian, in a lent run of bytes, and numbers by their bits. A word that lies outside the
+// run is read as 0, and is not written.
+
+fn wide(b: u8) -> u32 {
+    b as u32
+}
+
+// The word at byte `at`.
+pub fn word(s: &[u8], at: usize) -> u32 {
+    if s.len() < 4 {
+        return 0;
+    }
+    if s.len() - 4 < at {
+        return 0;
+    }
+    wide(s[at]) | (wide(s[at + 1]) << 8) | (wide(s[at + 2]) << 16) | (wide(s[at + 3]) << 24)
+}
+
+fn put_byte(s: &mut [u8], at: usize, w: u32) {
+    if at < s.len() {
+        s[at] = (w % 256) as u8;
+    }
+}
+
+// Writes a word at byte `at`.
+pub fn put(s: &mut [u8], at: usize, w: u32) {
+    if at < 65536 {
+        put_byte(s, at, w);
+        put_byte(s, at + 1, w >> 8);
+        put_byte(s, at + 2, w >> 16);
+        put_byte(s, at + 3, w >> 24);
+    }
+}
+
+// The number with these bits. The logic has one NaN, so every NaN's bits are that one.
+fn number_of(bits: u32) -> f32 {
+    if bits % 0x8000_0000 <= 0x7f80_0000 {
+        f32::from_bits(bits)
+    } else {
+        0.0 / 0.0
+    }
+}
+
+fn bits_of(x: f32) -> u32 {
+    if x != x {
+        return 0x7fc0_0000;
+    }
+    f32::to_bits(x)
+}
+
+// The number at byte `at`.
+pub fn number(s: &[u8], at: usize) -> f32 {
+    number_of(word(s, at))
+}
+
+pub fn put_number(s: &mut [u8], at: usize, x: f32) {
+    put(s, at, bits_of(x));
+}
+
+// The split at byte `at`.
+pub fn split(s: &[u8], at: usize) -> usize {
+    word(s, at) as usize
+}
+
+// Three numbers from byte `at` on.
+pub fn point(s: &[u8], at: usize) -> [f32; 3] {
+    if at < 65536 {
+        [number(s, at), number(s, at + 4), number(s, at + 8)]
+    } else {
+        [0.0, 0.0, 0.0]
+    }
+}
+
+pub fn put_point(s: &mut [u8], at: usize, p: [f32; 3]) {
+    if at < 65536 {
+        put_number(s, at, p[0]);
+        put_number(s, at + 4, p[1]);
+        put_number(s, at + 8, p[2]);
+    }
+}
+
+// Four points from byte `at` on.
+pub fn points(s: &[u8], at: usize) -> [[f32; 3]; 4] {
+    if at < 65536 {
+        [
+            point(s, at),
+            point(s, at + 12),
+            point(s, at + 24),
+            point(s, at + 36),
+        ]
+    } else {
+        [
+            [0.0, 0.0, 0.0],
+            [0.0, 0.0, 0.0],
+            [0.0, 0.0, 0.0],
+            [0.0, 0.0, 0.0],
+        ]
+    }
+}
+
+pub fn put_points(s: &mut [u8], at: usize, x: [[f32; 3]; 4]) {
+    if at < 65536 {
+        let a = x[0];
+        let b = x[1];
+        let c = x[2];
+        let d = x[3];
+        put_point(s, at, a);
+        put_point(s, at + 12, b);
+        put_point(s, at + 24, c);
+        put_point(s, at + 36, d);
+    }
+}

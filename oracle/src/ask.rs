@@ -1,0 +1,66 @@
+//! One call at a time: document 01's answer, and what the original does, in a child with a limit on its time.
+
+use std::process::{Child, Command, Stdio};
+use std::thread::sleep;
+use std::time::Duration;
+
+use crate::calls::{hex, Call, Function, Words};
+use crate::examples::EXAMPLES;
+use crate::judge::{judged, Relation, ENTRIES};
+use crate::sides::{by_original, Outcome};
+
+/// How long the original may take, in tenths of a second.
+const PATIENCE: u32 = 30;
+
+/// A call from the name of its function and its words.
+fn call_of(text: &str) -> Call {
+    let (name, arguments) = text.split_once(' ').unwrap_or((text, ""));
+    Call::new(Function::named(name), Words::from_hex(arguments))
+}
+
+/// Prints the original's answer.
+pub fn original(text: &str) {
+    match by_original(&call_of(text)) {
+        Outcome::Answered(words) => println!("{}", hex(words.as_slice())),
+        Outcome::Stopped => println!("stops"),
+    }
+}
+
+/// Prints a call with both answers, and answers how they stand to each other.
+pub fn ask(text: &str) -> Relation {
+    let asked = judged(call_of(text));
+    println!("{}", asked.call.hex());
+    println!("  document 01  {}", hex(asked.expected.as_slice()));
+    println!("  the original {}", in_child(text));
+    asked.relation
+}
+
+/// Prints the examples of docs/DIFFERENCES.md. Answers whether each is under the entry that it stands for.
+pub fn differences() -> bool {
+    let shows = |&(entry, text)| {
+        print!("{}: ", ENTRIES[entry as usize]);
+        ask(text) == Relation::Listed(entry)
+    };
+    EXAMPLES.iter().map(shows).fold(true, |so_far, this| so_far && this)
+}
+
+fn in_child(text: &str) -> String {
+    let this = std::env::current_exe().expect("this program has a path");
+    let mut command = Command::new(this);
+    command.arg("original").args(text.split_whitespace());
+    let mut child = command.stdout(Stdio::piped()).stderr(Stdio::null()).spawn().expect("this program runs again");
+    for _ in 0..PATIENCE {
+        if let Ok(Some(_)) = child.try_wait() {
+            return said(child);
+        }
+        sleep(Duration::from_millis(100));
+    }
+    let _ = child.kill();
+    let _ = child.wait();
+    "does not end".to_string()
+}
+
+fn said(child: Child) -> String {
+    let output = child.wait_with_output().expect("it has ended");
+    String::from_utf8_lossy(&output.stdout).trim().to_string()
+}

@@ -1,0 +1,126 @@
+//! The named branches of document 01's rules. The model notes each one that a call meets; a run counts the calls that
+//! met it, and fails where one that can be met was not.
+
+use std::cell::Cell;
+
+macro_rules! branches {
+    ($($name:ident: $text:literal,)*) => {
+        #[derive(Clone, Copy)]
+        pub enum Branch { $($name,)* }
+
+        /// What each branch is, in the order of the enum.
+        pub const NAMES: &[&str] = &[$($text,)*];
+    };
+}
+
+branches! {
+    RootZero: "square root: of a zero",
+    RootSubnormal: "square root: of a subnormal number",
+    RootNormal: "square root: of a normal number",
+    RatioNoLength: "distance: a segment of length zero",
+    RatioLow: "distance: a ratio held to 0",
+    RatioHigh: "distance: a ratio held to 1",
+    RatioInside: "distance: a ratio inside",
+    Edge0: "distance, edges: column 0 is nearest",
+    Edge1: "distance, edges: column 1 is nearest",
+    Edge2: "distance, edges: column 2 is nearest",
+    Edge3: "distance, edges: column 3 is nearest",
+    EdgeInterior: "distance, edges: the interior places are nearest",
+    EdgeNoDet: "distance, edges: det not above 0",
+    EdgeSOutside: "distance, edges: s outside 0..1",
+    EdgeROutside: "distance, edges: s inside, r outside 0..1",
+    Face0: "distance, face: edge 0-1 is nearest",
+    Face1: "distance, face: edge 1-2 is nearest",
+    Face2: "distance, face: edge 2-0 is nearest",
+    FaceInterior: "distance, face: the interior place is nearest",
+    FaceNoDet: "distance, face: det not above 0",
+    FaceVBelow: "distance, face: v below 0",
+    FaceWBelow: "distance, face: v inside, w below 0",
+    FaceSumAbove: "distance, face: v and w not below 0, their sum above 1",
+    DistanceTie: "distance: a later candidate equal to the smallest, not taken",
+    NormZero: "norm: zero",
+    NormLater: "norm: not the first cross pair's",
+    ScaleOnce: "scaling: one multiplication",
+    ScaleSeveral: "scaling: 2 to 42 multiplications",
+    ScaleMost: "scaling: 43 multiplications",
+    ScaleExactlyEight: "scaling: f becomes exactly 8",
+    ScaleByMoved: "scaling: a moved place is the largest entry",
+    QuadraticNone: "quadratic: no real root",
+    QuadraticDouble: "quadratic: a double root",
+    QuadraticSumZero: "quadratic: c1 and the root of det are both 0",
+    QuadraticInfinite: "quadratic: an infinite root",
+    QuadraticSwapped: "quadratic: the roots change places",
+    ConstantRoot: "roots, constant: root 0",
+    ConstantNone: "roots, constant: none",
+    LinearRoot: "roots, linear: a root",
+    LinearNone: "roots, linear: none",
+    LinearBothZero: "roots, linear: both values zero",
+    SquareNone: "roots, quadratic: none real",
+    SquareFirst: "roots, quadratic: only the lower is in range",
+    SquareSecond: "roots, quadratic: only the upper is in range",
+    SquareBoth: "roots, quadratic: both are in range",
+    SquareOutside: "roots, quadratic: neither is in range",
+    CubicMonotone: "roots, cubic: one span, no turning point",
+    CubicFirstSpan: "roots, cubic: the span before the first turning point",
+    CubicMiddleSpan: "roots, cubic: the span between the turning points",
+    CubicLastSpan: "roots, cubic: the span after the last turning point",
+    CubicOne: "roots, cubic: one root",
+    CubicTwo: "roots, cubic: two roots",
+    CubicThree: "roots, cubic: three roots",
+    CubicNone: "roots, cubic: none",
+    CubicDescending: "roots, cubic: the answered roots do not ascend",
+    SpanSameSide: "span: both values on one side",
+    SpanPoint: "span: equal ends, value 0",
+    SpanBothZero: "span: both values zero",
+    SpanGuessOutside: "span: the starting guess lies outside 0..t",
+    NewtonAtOnce: "Newton: the starting guess is near enough",
+    NewtonStops: "Newton: near enough after some steps",
+    NewtonAll: "Newton: all 20 steps",
+    NewtonLow: "Newton: a step held to 0",
+    NewtonHigh: "Newton: a step held to t",
+    NewtonFlat: "Newton: slope 0, value not 0",
+    NewtonNoSlope: "Newton: value 0 and slope 0",
+    CoplanarAbove: "coplanar: a computed coefficient above 2^20",
+    StartInside: "walk: starts at or below offset squared",
+    StartInBand: "walk: starts above offset squared, below park squared",
+    StartAtPark: "walk: starts at park squared",
+    PlainOnly: "step: the plain one passes the limit, the directional is not tried",
+    DirectionStopped: "step: a cross pair ends the directional loops with 0",
+    DirectionNone: "step: no cross pair comes nearer",
+    DirectionReceding: "step: a cross pair does not come nearer",
+    DirectionHeld: "step: a quotient of 0, where projected is not above park",
+    DirectionInfinite: "step: an infinite quotient, dropped",
+    DirectionTaken: "step: the directional one is longer",
+    PlainTaken: "step: the plain one is as long or longer",
+    StepNoMove: "step: too small to move the time",
+    ClearAtOnce: "walk: clear with no probe",
+    ClearLater: "walk: clear after probes",
+    ClearLast: "walk: clear after 4,096 probes",
+    BudgetMoved: "walk: budget, the time still moving",
+    BudgetStuck: "walk: budget, the time not moving",
+    ContactAtZero: "walk: contact at time 0",
+    ContactFirst: "walk: contact found by the first probe",
+    ContactLater: "walk: contact found by a later probe",
+    ContactLast: "walk: contact found by probe 4,096",
+    HalvingsFew: "halving: one halving",
+    HalvingsMany: "halving: more than 100 halvings",
+    HalvingExact: "halving: a midpoint at exactly park squared",
+    MinusZeroTime: "walk: an answered time that the Rust writes as minus zero",
+    MinusZeroRoot: "roots: an answered root that is written as minus zero without the rule",
+}
+
+thread_local! {
+    static MET: Cell<u128> = const { Cell::new(0) };
+}
+
+/// Notes a branch.
+pub fn met(branch: Branch) {
+    MET.with(|m| m.set(m.get() | 1 << branch as u32));
+}
+
+/// The branches noted since the last call of this, one bit each.
+pub fn taken() -> u128 {
+    MET.with(|m| m.replace(0))
+}
+
+const _: () = assert!(NAMES.len() <= 128);

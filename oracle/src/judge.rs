@@ -1,0 +1,125 @@
+//! What an answer is held to: the original's where it answers, and document 01's rule where that differs by design.
+//! Each intended difference is an entry of docs/DIFFERENCES.md; a difference with no entry fails.
+
+use crate::calls::{Call, Function, Words};
+use crate::cover::{self, Branch};
+use crate::model::Rules;
+use crate::sides::{by_model, by_original, Outcome};
+
+macro_rules! entries {
+    ($($name:ident: $text:literal,)*) => {
+        #[derive(Clone, Copy, PartialEq, Eq, Debug)]
+        pub enum Entry { $($name,)* }
+
+        /// The headings of docs/DIFFERENCES.md, in the order of the enum.
+        pub const ENTRIES: &[&str] = &[$($text,)*];
+    };
+}
+
+entries! {
+    NotFinite: "not-finite",
+    Limits: "limits",
+    Band: "band",
+    BothZero: "both-zero",
+    Guess: "guess",
+    NoSlope: "no-slope",
+    LeadingZero: "leading-zero",
+    Endless: "endless",
+    Infinity: "infinity",
+    PlusZero: "plus-zero",
+    TouchingCount: "touching-count",
+}
+
+/// How document 01's answer stands to the original's.
+#[derive(Clone, Copy, PartialEq, Eq, Debug)]
+pub enum Relation {
+    Same,
+    Listed(Entry),
+    Unlisted,
+}
+
+/// A call with all that its answer is held to.
+pub struct Judged {
+    pub call: Call,
+    pub expected: Words,
+    pub relation: Relation,
+    pub branches: u128,
+}
+
+pub fn refusal_of(answer: &Words) -> u32 {
+    answer.as_slice()[0]
+}
+
+/// Asks the model, and the original where it can be asked.
+pub fn judged(call: Call) -> Judged {
+    cover::taken();
+    let expected = by_model(&Rules::DOCUMENT, &call);
+    let branches = cover::taken();
+    let endless = branches >> Branch::ScaleExactlyEight as u32 & 1 == 1;
+    let relation = match refusal_of(&expected) {
+        1 => Relation::Listed(Entry::NotFinite),
+        2 => Relation::Listed(Entry::Limits),
+        5 if endless => Relation::Listed(Entry::Infinity),
+        _ if endless => Relation::Listed(Entry::Endless),
+        refusal => relation(&call, refusal, &expected, &by_original(&call)),
+    };
+    Judged { call, expected, relation, branches }
+}
+
+fn relation(call: &Call, refusal: u32, expected: &Words, original: &Outcome) -> Relation {
+    let has = |test: fn(f32) -> bool, from: usize| match original {
+        Outcome::Answered(words) => (from..words.as_slice().len()).any(|i| test(words.number(i))),
+        Outcome::Stopped => false,
+    };
+    let stopped = matches!(original, Outcome::Stopped);
+    match refusal {
+        0 => match original {
+            Outcome::Answered(words) => answered(call, expected, words),
+            Outcome::Stopped => Relation::Unlisted,
+        },
+        3 if stopped => Relation::Listed(Entry::Band),
+        4 => match original {
+            Outcome::Answered(words) if words.as_slice() == expected.as_slice() => Relation::Same,
+            _ => Relation::Unlisted,
+        },
+        5 if has(f32::is_infinite, 2) => Relation::Listed(Entry::Infinity),
+        6 if stopped => Relation::Listed(Entry::BothZero),
+        7 if stopped => Relation::Listed(Entry::Guess),
+        // after the NaN of one span, another span may still stop it
+        8 if stopped || has(f32::is_nan, 2) => Relation::Listed(Entry::NoSlope),
+        9 if stopped => Relation::Listed(Entry::LeadingZero),
+        _ => Relation::Unlisted,
+    }
+}
+
+/// Where both answer: bit for bit, but for the sign of a zero time or root and the counts of a touching pair.
+fn answered(call: &Call, expected: &Words, original: &Words) -> Relation {
+    let (ours, theirs) = (expected.as_slice(), original.as_slice());
+    let signs_free = match call.function {
+        Function::SafeTime => 2..3,
+        Function::QuadraticRoot | Function::CubicRoots | Function::CoplanarTime => 2..5,
+        Function::SquareRoot => 1..2,
+        _ => 0..0,
+    };
+    let zeros = |i: usize| signs_free.contains(&i) && expected.number(i) == 0.0 && original.number(i) == 0.0;
+    let differing: Vec<usize> = (0..ours.len()).filter(|&i| ours[i] != theirs[i]).collect();
+    if call.function == Function::SafeTime {
+        let touching = ours[1] == 0;
+        // the original names no kind but a contact, and halves once where the pair starts at park squared
+        let others: Vec<usize> = differing.iter().copied().filter(|&i| i != 1).collect();
+        let contact_told = (ours[1] == 1) == (theirs[1] == 1);
+        return match &others[..] {
+            [] if contact_told => Relation::Same,
+            [2] if contact_told && zeros(2) => Relation::Listed(Entry::PlusZero),
+            [4] if touching && theirs[4] == 1 => Relation::Listed(Entry::TouchingCount),
+            _ => Relation::Unlisted,
+        };
+    }
+    if differing.is_empty() {
+        Relation::Same
+    } else if differing.iter().all(|&i| zeros(i)) {
+        Relation::Listed(Entry::PlusZero)
+    } else {
+        Relation::Unlisted
+    }
+}

@@ -1,0 +1,72 @@
+//! The Rust side of the tests. It makes calls, asks the original and a model of document 01, and judges the answers of
+//! the Rattle program (docs/TESTING.md).
+
+mod ask;
+mod calls;
+mod compare;
+mod cover;
+mod examples;
+mod faults;
+mod freeze;
+mod generate;
+mod judge;
+mod model;
+mod outside;
+mod sides;
+mod tally;
+
+use calls::Function;
+use std::path::Path;
+use std::process::ExitCode;
+
+const USAGE: &str = "\
+oracle compare SEED CALLS ONLY [PROGRAM WORD..]
+                              the program over pipes, held to the original and to document 01; with no program,
+                              document 01's model held to the original. ONLY is `all` or names of functions, with commas
+oracle faults SEED            the judge's own test, with planted faults
+oracle freeze FOLDER          writes the frozen list below FOLDER
+oracle frozen FOLDER          holds the frozen list below FOLDER to the one that freeze makes
+oracle ask FUNCTION WORD..    one call: document 01's answer and what the original does
+oracle differences            the same for the inputs of docs/DIFFERENCES.md
+oracle stand-in FAULT         the model as a program under test
+oracle original FUNCTION WORD..
+                              the original's answer to one call; it may stop, or not end";
+
+fn main() -> ExitCode {
+    sides::guard();
+    let args: Vec<String> = std::env::args().skip(1).collect();
+    let words: Vec<&str> = args.iter().map(String::as_str).collect();
+    let well = match &words[..] {
+        ["compare", seed, calls, only, ..] => match (seed.parse(), calls.parse()) {
+            (Ok(seed), Ok(calls)) => {
+                let only = if *only == "all" { Vec::new() } else { only.split(',').map(Function::named).collect() };
+                compare::report(&compare::Plan { seed, calls, only }, &args[4..])
+            }
+            _ => usage(),
+        },
+        ["faults", seed] => seed.parse().map_or_else(|_| usage(), faults::test),
+        ["freeze", folder] => freeze::freeze(Path::new(folder), true),
+        ["frozen", folder] => freeze::freeze(Path::new(folder), false),
+        ["ask", call @ ..] => ask::ask(&call.join(" ")) != judge::Relation::Unlisted,
+        ["differences"] => ask::differences(),
+        ["stand-in", fault] => {
+            faults::stand_in(fault);
+            true
+        }
+        ["original", call @ ..] => {
+            ask::original(&call.join(" "));
+            true
+        }
+        _ => usage(),
+    };
+    if well {
+        ExitCode::SUCCESS
+    } else {
+        ExitCode::FAILURE
+    }
+}
+
+fn usage() -> bool {
+    eprintln!("{USAGE}");
+    false
+}

@@ -1,0 +1,91 @@
+//! A model of document 01 (docs/01-scope.md), in plain Rust over the machine's f32: what each public function answers,
+//! refusals and counts included. It is written from the document and not from the original's text. The judge takes from
+//! it document 01's answer where the original stops, does not end or leaves a NaN or an infinity.
+
+mod admission;
+mod distance;
+mod pair;
+mod roots;
+mod walk;
+
+pub type Point = [f32; 3];
+pub type Points = [Point; 4];
+
+pub use distance::Distance;
+pub use roots::{Coefficients, Roots};
+pub use walk::{Kind, Limits};
+
+/// Why nothing is answered: a number of document 01's table.
+pub type Refusal = u32;
+
+/// The numbers of document 01 by which the model goes. A planted fault is one of them changed.
+#[derive(Clone, Copy)]
+pub struct Rules {
+    /// The candidate that is left out, of edges and of a face.
+    pub left_out: [Option<usize>; 2],
+    /// Whether a later candidate equal to the smallest is taken.
+    pub last_of_equals: bool,
+    /// The slack of rounding in the directional step, 2^-22.
+    pub round_slack: f32,
+    /// The probes allowed, 4,096.
+    pub probes: u32,
+    /// The Newton steps, 20.
+    pub newton_steps: u32,
+    /// The halving stops below this window, 0: only where the window repeats.
+    pub least_window: f32,
+    /// Whether a repeated root of the quadratic case is dropped.
+    pub drops_repeated: bool,
+    /// How many bits a square root is off, 0.
+    pub root_off: u32,
+}
+
+impl Rules {
+    /// As document 01 has them.
+    pub const DOCUMENT: Rules = Rules {
+        left_out: [None, None],
+        last_of_equals: false,
+        round_slack: 1.0 / 4_194_304.0,
+        probes: 4096,
+        newton_steps: 20,
+        least_window: 0.0,
+        drops_repeated: false,
+        root_off: 0,
+    };
+
+    /// The square root of a finite number not below zero, correctly rounded.
+    fn root(&self, x: f32) -> f32 {
+        if x == 0.0 {
+            0.0
+        } else {
+            f32::from_bits(x.sqrt().to_bits() + self.root_off)
+        }
+    }
+
+    /// The public square root.
+    pub fn square_root(&self, x: f32) -> Result<f32, Refusal> {
+        use crate::cover::{met, Branch};
+        admission::Admission::new().number(x, 0.0, f32::MAX).done()?;
+        met(if x == 0.0 {
+            Branch::RootZero
+        } else if x < f32::MIN_POSITIVE {
+            Branch::RootSubnormal
+        } else {
+            Branch::RootNormal
+        });
+        Ok(self.root(x))
+    }
+}
+
+/// The larger, the first of equals.
+fn larger(a: f32, b: f32) -> f32 {
+    if a < b {
+        b
+    } else {
+        a
+    }
+}
+
+/// Plus zero for either zero, as answered times and roots are written.
+fn plus_zero(x: f32) -> f32 {
+    x + 0.0
+}

@@ -1,0 +1,66 @@
+//! What is allowed at each place of a call's arguments (docs/01-scope.md, "What callers hand over, and the numbers
+//! allowed"), and in which ways one can be outside of it: for the generator, and to see that a run met each way at each
+//! place.
+
+use crate::calls::{Call, Function};
+
+pub enum Allowed {
+    /// 2 or 3.
+    Split,
+    /// A number from the first to the second.
+    Number(f32, f32),
+}
+
+pub fn allowed(function: Function, place: usize) -> Allowed {
+    let limit = 1_048_576.0;
+    let fastest = 1_152_921_504_606_846_976.0;
+    let (low, high) = match (function, place) {
+        (Function::SquaredDistance | Function::MaxRelativeNorm, 12) | (Function::SafeTime, 24) => {
+            return Allowed::Split
+        }
+        (Function::SquareRoot, _) => (0.0, f32::MAX),
+        (Function::Lerp, 6) | (Function::AddScaled | Function::Normalize, 24) | (Function::SafeTime, 27) => (0.0, 1.0),
+        (Function::CubicRoots, 4) => (1.0e-45, 1.0),
+        (Function::ScaleInPlace, 12) | (Function::CubicRoots, 5) | (Function::SafeTime, 25 | 26) => (0.0, limit),
+        (Function::SafeTime, 28) => (1.0 / fastest, fastest),
+        _ => (-limit, limit),
+    };
+    Allowed::Number(low, high)
+}
+
+/// The ways of being outside.
+pub const WAYS: [&str; 4] = ["NaN", "infinite", "below", "above"];
+
+/// The ways that a place has. A split is below or above.
+pub fn ways(function: Function, place: usize) -> &'static [usize] {
+    match allowed(function, place) {
+        Allowed::Split => &[2, 3],
+        Allowed::Number(_, f32::MAX) => &[0, 1, 2],
+        Allowed::Number(..) => &[0, 1, 2, 3],
+    }
+}
+
+fn way(call: &Call, place: usize) -> Option<usize> {
+    match allowed(call.function, place) {
+        Allowed::Split => match call.arguments.as_slice()[place] {
+            2 | 3 => None,
+            split => Some(if split < 2 { 2 } else { 3 }),
+        },
+        Allowed::Number(low, high) => match call.arguments.number(place) {
+            x if x.is_nan() => Some(0),
+            x if x.is_infinite() => Some(1),
+            x if x < low => Some(2),
+            x if x > high => Some(3),
+            _ => None,
+        },
+    }
+}
+
+/// The only place that is outside, and the way, where there is exactly one.
+pub fn only_outside(call: &Call) -> Option<(usize, usize)> {
+    let mut found = (0..call.function.arguments()).filter_map(|place| Some((place, way(call, place)?)));
+    match (found.next(), found.next()) {
+        (Some(one), None) => Some(one),
+        _ => None,
+    }
+}

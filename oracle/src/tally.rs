@@ -1,0 +1,169 @@
+//! What a run met: calls and refusals of each function, kinds of safe times, branches, entries of the differences; and
+//! the differences that no entry has.
+
+use crate::calls::{hex, Function, Words, FUNCTIONS, MOST};
+use crate::cover;
+use crate::judge::{refusal_of, Judged, Relation, ENTRIES};
+use crate::outside::{only_outside, ways, WAYS};
+use crate::sides::KINDS;
+
+/// The refusals that each function can give, besides an answer.
+fn refusals(function: Function) -> &'static [u32] {
+    match function {
+        Function::SafeTime => &[1, 2, 3],
+        Function::Normalize => &[1, 2, 4, 5],
+        Function::QuadraticRoot => &[1, 2, 9],
+        Function::CubicRoots => &[1, 2, 6, 7, 8],
+        Function::CoplanarTime => &[1, 2, 6, 8],
+        _ => &[1, 2],
+    }
+}
+
+pub struct Tally {
+    refused: [[u64; 10]; 12],
+    kinds: [u64; 5],
+    branches: Vec<u64>,
+    entries: Vec<u64>,
+    /// by function, place and way
+    outside: Vec<[[u64; WAYS.len()]; MOST]>,
+    most_halvings: u32,
+    differences: u64,
+    /// how many differences are printed
+    shown: u64,
+}
+
+impl Tally {
+    pub fn new() -> Tally {
+        Tally {
+            refused: [[0; 10]; 12],
+            kinds: [0; 5],
+            branches: vec![0; cover::NAMES.len()],
+            entries: vec![0; ENTRIES.len()],
+            outside: vec![[[0; WAYS.len()]; MOST]; FUNCTIONS.len()],
+            most_halvings: 0,
+            differences: 0,
+            shown: 10,
+        }
+    }
+
+    /// One that prints no difference.
+    pub fn quiet() -> Tally {
+        Tally { shown: 0, ..Tally::new() }
+    }
+
+    /// Counts a call, and its difference where document 01's answer is not the original's and no entry says why.
+    pub fn note(&mut self, judged: &Judged) {
+        let answer = judged.expected.as_slice();
+        self.refused[judged.call.function as usize][refusal_of(&judged.expected) as usize] += 1;
+        if judged.call.function == Function::SafeTime {
+            self.kinds[answer[1] as usize] += 1;
+            self.most_halvings = self.most_halvings.max(answer[4]);
+        }
+        for (i, count) in self.branches.iter_mut().enumerate() {
+            *count += (judged.branches >> i & 1) as u64;
+        }
+        if let Some((place, way)) = only_outside(&judged.call) {
+            self.outside[judged.call.function as usize][place][way] += 1;
+        }
+        match judged.relation {
+            Relation::Same => {}
+            Relation::Listed(entry) => self.entries[entry as usize] += 1,
+            Relation::Unlisted => {
+                self.differs(judged, "document 01's rule and the original differ, and no entry says why")
+            }
+        }
+    }
+
+    /// Holds the program's answer to what is expected.
+    pub fn hold(&mut self, judged: &Judged, answer: &Words) {
+        if answer.as_slice() != judged.expected.as_slice() {
+            self.differs(judged, &format!("answered  {}", hex(answer.as_slice())));
+        }
+    }
+
+    fn differs(&mut self, judged: &Judged, how: &str) {
+        self.differences += 1;
+        if self.differences <= self.shown {
+            println!("DIFFERENCE {}", judged.call.hex());
+            println!("  expected  {}", hex(judged.expected.as_slice()));
+            println!("  {how}");
+        }
+    }
+
+    /// Counts a failure of the program itself.
+    pub fn broke(&mut self, how: &str) {
+        if self.shown > 0 {
+            println!("the program under test {how}");
+        }
+        self.differences += 1;
+    }
+
+    pub fn differences(&self) -> u64 {
+        self.differences
+    }
+
+    pub fn calls(&self) -> u64 {
+        self.refused.iter().flatten().sum()
+    }
+
+    /// How many calls of each function, all together.
+    pub fn of(&self, function: Function) -> u64 {
+        self.refused[function as usize].iter().sum()
+    }
+
+    /// What can be met and was not.
+    pub fn missing(&self) -> Vec<String> {
+        let mut missing = Vec::new();
+        for function in FUNCTIONS {
+            for &refusal in [0].iter().chain(refusals(function)) {
+                if self.refused[function as usize][refusal as usize] == 0 {
+                    let what = if refusal == 0 { "an answer".to_string() } else { format!("refusal {refusal}") };
+                    missing.push(format!("{}: {what}", function.name()));
+                }
+            }
+        }
+        let named = |names: &[&str], counts: &[u64]| -> Vec<String> {
+            let unmet = names.iter().zip(counts).filter(|(_, &count)| count == 0);
+            unmet.map(|(name, _)| name.to_string()).collect()
+        };
+        missing.extend(named(&KINDS, &self.kinds));
+        missing.extend(named(cover::NAMES, &self.branches));
+        missing.extend(named(ENTRIES, &self.entries));
+        for function in FUNCTIONS {
+            for (place, way, count) in self.outside_of(function) {
+                if count == 0 {
+                    missing.push(format!("{}: argument {place} alone {}", function.name(), WAYS[way]));
+                }
+            }
+        }
+        missing
+    }
+
+    /// Each place and way of a function with how often it was met alone.
+    fn outside_of(&self, function: Function) -> impl Iterator<Item = (usize, usize, u64)> + '_ {
+        let counts = &self.outside[function as usize];
+        let at = move |place: usize| ways(function, place).iter().map(move |&way| (place, way, counts[place][way]));
+        (0..function.arguments()).flat_map(at)
+    }
+
+    pub fn print(&self) {
+        for function in FUNCTIONS {
+            let counts = &self.refused[function as usize];
+            let refusals = (1..10).filter(|&i| counts[i] > 0).map(|i| format!("refusal {i}: {}", counts[i]));
+            let all: Vec<String> = refusals.collect();
+            println!("{:>10} {}, answered: {}, {}", self.of(function), function.name(), counts[0], all.join(", "));
+        }
+        let kinds: Vec<String> = KINDS.iter().zip(&self.kinds).map(|(name, n)| format!("{name}: {n}")).collect();
+        println!("safe times, {}; most halvings: {}", kinds.join(", "), self.most_halvings);
+        let least = FUNCTIONS.iter().flat_map(|&function| self.outside_of(function)).map(|(_, _, count)| count).min();
+        println!("each argument alone NaN, infinite, below and above its range: {} times or more", least.unwrap_or(0));
+        println!("branches met, in calls:");
+        for (name, count) in cover::NAMES.iter().zip(&self.branches) {
+            println!("{count:>10} {name}");
+        }
+        println!("entries of docs/DIFFERENCES.md used:");
+        for (name, count) in ENTRIES.iter().zip(&self.entries) {
+            println!("{count:>10} {name}");
+        }
+    }
+}
