@@ -1,4 +1,4 @@
--- The place along a segment (docs/01-scope.md, "Points along a segment"). Definitions only.
+-- The place along a segment (docs/01-scope.md, "A place along a segment"). Definitions only.
 use mathlib.Core.List.{List}
 use lib.Ieee.{Float}
 use Rattle.geometry.specs.Vec3.{along, minus}
