@@ -1,4 +1,4 @@
-//! One call at a time: document 01's answer, and what the original does, in a child with a limit on its time.
+//! One call at a time: the rules' answer, and what the original does, in a child with a limit on its time.
 
 use std::process::{Child, Command, Stdio};
 use std::thread::sleep;
@@ -30,7 +30,7 @@ pub fn original(text: &str) {
 pub fn ask(text: &str) -> Relation {
     let asked = judged(call_of(text));
     println!("{}", asked.call.hex());
-    println!("  document 01  {}", hex(asked.expected.as_slice()));
+    println!("  the rules    {}", hex(asked.expected.as_slice()));
     println!("  the original {}", in_child(text));
     asked.relation
 }

@@ -42,7 +42,7 @@ pub fn report(plan: &Plan, program: &[String]) -> bool {
     differences == 0 && missing.is_empty()
 }
 
-/// The original against document 01's model, with no program.
+/// The original against the model, with no program.
 fn run(plan: &Plan) -> Tally {
     let mut tally = Tally::new();
     plan.calls().for_each(|call| tally.note(&judged(call)));

@@ -1,4 +1,4 @@
-//! The named branches of document 01's rules. The model notes each one that a call meets; a run counts the calls that
+//! The named branches of the rules. The model notes each one that a call meets; a run counts the calls that
 //! met it, and fails where one that can be met was not.
 
 use std::cell::Cell;

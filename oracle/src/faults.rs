@@ -8,7 +8,7 @@ use crate::judge::refusal_of;
 use crate::model::Rules;
 use crate::sides::by_model;
 
-/// A rule of document 01 that is changed, or answers that are changed after it.
+/// A rule that is changed, or answers that are changed after it.
 struct Fault {
     name: &'static str,
     rules: Rules,

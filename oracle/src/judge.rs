@@ -1,4 +1,4 @@
-//! What an answer is held to: the original's where it answers, and document 01's rule where that differs by design.
+//! What an answer is held to: the original's where it answers, and the rule where that differs by design.
 //! Each intended difference is an entry of docs/DIFFERENCES.md; a difference with no entry fails.
 
 use crate::calls::{Call, Function, Words};
@@ -30,7 +30,7 @@ entries! {
     TouchingCount: "touching-count",
 }
 
-/// How document 01's answer stands to the original's.
+/// How the rules' answer stands to the original's.
 #[derive(Clone, Copy, PartialEq, Eq, Debug)]
 pub enum Relation {
     Same,

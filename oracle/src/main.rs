@@ -1,4 +1,4 @@
-//! The Rust side of the tests. It makes calls, asks the original and a model of document 01, and judges the answers of
+//! The Rust side of the tests. It makes calls, asks the original and a model of the rules, and judges the answers of
 //! the Rattle program (docs/TESTING.md).
 
 mod ask;
@@ -21,12 +21,12 @@ use std::process::ExitCode;
 
 const USAGE: &str = "\
 oracle compare SEED CALLS ONLY [PROGRAM WORD..]
-                              the program over pipes, held to the original and to document 01; with no program,
-                              document 01's model held to the original. ONLY is `all` or names of functions, with commas
+                              the program over pipes, held to the original and to the rules; with no program,
+                              the model held to the original. ONLY is `all` or names of functions, with commas
 oracle faults SEED            the judge's own test, with planted faults
 oracle freeze FOLDER          writes the frozen list below FOLDER
 oracle frozen FOLDER          holds the frozen list below FOLDER to the one that freeze makes
-oracle ask FUNCTION WORD..    one call: document 01's answer and what the original does
+oracle ask FUNCTION WORD..    one call: the rules' answer and what the original does
 oracle differences            the same for the inputs of docs/DIFFERENCES.md
 oracle stand-in FAULT         the model as a program under test
 oracle original FUNCTION WORD..

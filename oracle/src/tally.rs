@@ -51,7 +51,7 @@ impl Tally {
         Tally { shown: 0, ..Tally::new() }
     }
 
-    /// Counts a call, and its difference where document 01's answer is not the original's and no entry says why.
+    /// Counts a call, and its difference where the rules' answer is not the original's and no entry says why.
     pub fn note(&mut self, judged: &Judged) {
         let answer = judged.expected.as_slice();
         self.refused[judged.call.function as usize][refusal_of(&judged.expected) as usize] += 1;
@@ -69,7 +69,7 @@ impl Tally {
             Relation::Same => {}
             Relation::Listed(entry) => self.entries[entry as usize] += 1,
             Relation::Unlisted => {
-                self.differs(judged, "document 01's rule and the original differ, and no entry says why")
+                self.differs(judged, "the rule and the original differ, and no entry says why")
             }
         }
     }

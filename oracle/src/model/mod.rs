@@ -1,6 +1,6 @@
-//! A model of document 01 (docs/01-scope.md), in plain Rust over the machine's f32: what each public function answers,
+//! A model of the rules (docs/01-scope.md), in plain Rust over the machine's f32: what each public function answers,
 //! refusals and counts included. It is written from the document and not from the original's text. The judge takes from
-//! it document 01's answer where the original stops, does not end or leaves a NaN or an infinity.
+//! it the rules' answer where the original stops, does not end or leaves a NaN or an infinity.
 
 mod admission;
 mod distance;
@@ -15,10 +15,10 @@ pub use distance::Distance;
 pub use roots::{Coefficients, Roots};
 pub use walk::{Kind, Limits};
 
-/// Why nothing is answered: a number of document 01's table.
+/// Why nothing is answered: a number of the rules' table.
 pub type Refusal = u32;
 
-/// The numbers of document 01 by which the model goes. A planted fault is one of them changed.
+/// The numbers of the rules by which the model goes. A planted fault is one of them changed.
 #[derive(Clone, Copy)]
 pub struct Rules {
     /// The candidate that is left out, of edges and of a face.
@@ -40,7 +40,7 @@ pub struct Rules {
 }
 
 impl Rules {
-    /// As document 01 has them.
+    /// As the rules have them.
     pub const DOCUMENT: Rules = Rules {
         left_out: [None, None],
         last_of_equals: false,
