@@ -12,6 +12,7 @@ mod generate;
 mod judge;
 mod model;
 mod outside;
+mod scenes;
 mod sides;
 mod tally;
 
@@ -28,6 +29,8 @@ oracle freeze FOLDER          writes the frozen list below FOLDER
 oracle frozen FOLDER          holds the frozen list below FOLDER to the one that freeze makes
 oracle ask FUNCTION WORD..    one call: the rules' answer and what the original does
 oracle differences            the same for the inputs of docs/DIFFERENCES.md
+oracle scenes FILE.. -- PROGRAM WORD..
+                              scenes, damaged copies of them and random ones, each listing held to the rules
 oracle stand-in FAULT         the model as a program under test
 oracle original FUNCTION WORD..
                               the original's answer to one call; it may stop, or not end";
@@ -49,6 +52,10 @@ fn main() -> ExitCode {
         ["frozen", folder] => freeze::freeze(Path::new(folder), false),
         ["ask", call @ ..] => ask::ask(&call.join(" ")) != judge::Relation::Unlisted,
         ["differences"] => ask::differences(),
+        ["scenes", rest @ ..] => match rest.iter().position(|&word| word == "--") {
+            Some(files) if files + 1 < rest.len() => scenes::test(&args[1..=files], &args[files + 2..]),
+            _ => usage(),
+        },
         ["stand-in", fault] => {
             faults::stand_in(fault);
             true

@@ -21,7 +21,7 @@ fn split_of(call: &Call, place: usize) -> u32 {
     call.arguments.as_slice()[place]
 }
 
-/// Document 01's answer.
+/// The rules' answer.
 pub fn by_model(rules: &Rules, call: &Call) -> Words {
     let a = &call.arguments;
     let refused = |refusal: Refusal| {

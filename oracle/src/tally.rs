@@ -68,9 +68,7 @@ impl Tally {
         match judged.relation {
             Relation::Same => {}
             Relation::Listed(entry) => self.entries[entry as usize] += 1,
-            Relation::Unlisted => {
-                self.differs(judged, "the rule and the original differ, and no entry says why")
-            }
+            Relation::Unlisted => self.differs(judged, "the rule and the original differ, and no entry says why"),
         }
     }
 
