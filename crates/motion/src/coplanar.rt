@@ -1,8 +1,6 @@
 // The times at which the four points of a pair lie in one plane (ccd3.rs: `coplanar_time_mat3x4`; docs/01-scope.md,
 // "Roots").
 ghost use mathlib.Core.Path.{_≡_};
-ghost use Rattle.number.specs.Number.{one32};
-ghost use Rattle.polynomial_root.specs.Promises.{Tidy, InRange};
 ghost use Rattle.motion.specs.Coplanar as Def;
 use geometry::vec3::scalar_triple_product;
 use geometry::vec3::sub;
