@@ -1,8 +1,8 @@
 // Calls of the square root and of the root finders.
 use crate::words;
+use motion::coplanar;
 use number::root;
 use number::root::Rooted;
-use pair::coplanar;
 use polynomial_root::answer::Roots;
 
 pub fn square_root(call: &[u8], out: &mut [u8]) {

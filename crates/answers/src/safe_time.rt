@@ -1,8 +1,8 @@
 // Calls of the safe time.
 use crate::words;
+use admission::Limits;
 use ccd3::Answer;
 use ccd3::safe_time;
-use pair::record::Limits;
 
 // The kind and the time, or the refusal.
 fn put_answer(out: &mut [u8], answer: Answer) {

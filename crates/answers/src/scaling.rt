@@ -1,8 +1,8 @@
 // Calls of `normalize_centerized_configuration`, which scales a lent pair.
 use crate::words;
-use pair::record;
-use pair::scaling;
-use pair::scaling::Scaling;
+use motion::record;
+use motion::scaling;
+use motion::scaling::Scaling;
 
 fn put_answer(out: &mut [u8], answer: Scaling) {
     match answer {

@@ -14,8 +14,8 @@ use Rattle.geometry.proofs.Bounds.{PointsWithin, moved-within}
 use Rattle.distance.specs.Nearest.{nearestOf}
 use Rattle.distance.proofs.Measured.{Measured, nearest-measured}
 use Rattle.distance.proofs.Alike.Start.{start-same}
-use Rattle.pair.specs.declared.record.Limits.{Limits}
-use Rattle.pair.proofs.Admitted.{Walkable, points-within}
+use Rattle.admission.specs.declared.Limits.{Limits}
+use Rattle.admission.proofs.Admitted.{Walkable, points-within}
 use Rattle.ccd3.specs.Walk.{squaredAt}
 use Rattle.ccd3.proofs.Growth.{Sound, Given}
 use Rattle.ccd3.proofs.Standing.{Ground}

@@ -23,7 +23,7 @@ use Rattle.number.proofs.Units.{Unit32, plus, of-float}
 use Rattle.number.proofs.Units.Compared.{L, Is, lt-says, says-lt, le-says}
 use Rattle.number.proofs.Ranges.{zero-to-limit, speed-range}
 use Rattle.number.proofs.Within.{Within, within-finite, within-more, add-within, sub-within, mul-within}
-use Rattle.pair.specs.declared.record.Limits.{Limits}
+use Rattle.admission.specs.declared.Limits.{Limits}
 use Rattle.ccd3.specs.declared.Aim.{Aim}
 use Rattle.ccd3.specs.Directional.{Cross, crossPairs, lessened, projected, rate, leastOver, directional, largest}
 use Rattle.ccd3.specs.Step.{park, dip, plain, aim, Visit, step, next}

@@ -18,7 +18,7 @@ use Rattle.number.proofs.Halvings.{Ends}
 use Rattle.number.proofs.Signs.{plus-up}
 use Rattle.number.proofs.Units.{Unit32, plus, same-float}
 use Rattle.number.proofs.Units.Compared.{L, Is, lt-is, lt-says, le-says, says-le}
-use Rattle.pair.specs.declared.record.Limits.{Limits}
+use Rattle.admission.specs.declared.Limits.{Limits}
 use Rattle.ccd3.specs.declared.Answer.{Answer}
 use Rattle.ccd3.specs.declared.Answer.the-variants.{Touching, Contact, Clear, Budget, Refused}
 use Rattle.ccd3.specs.Step.{Visit, next}

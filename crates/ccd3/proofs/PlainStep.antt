@@ -29,7 +29,7 @@ use Rattle.number.proofs.Sums.{add-is}
 use Rattle.number.proofs.Sums.Rounded.{add-opens, sum-ff, sum-ft}
 use Rattle.number.proofs.Units.{Unit32, plus}
 use Rattle.number.proofs.Units.Compared.{L, Is, left, right}
-use Rattle.pair.specs.declared.record.Limits.{Limits}
+use Rattle.admission.specs.declared.Limits.{Limits}
 use Rattle.ccd3.specs.Step.{park, dip}
 
 -- 2 ^ 20 in units

@@ -8,8 +8,8 @@ use lib.Dec.{T}
 use lib.ListN.{length}
 use lib.Ieee.{Float, lt, le}
 use Rattle.number.specs.Number.{zero32}
-use Rattle.pair.specs.declared.record.Limits.{Limits}
-use Rattle.pair.specs.Admission.{walkRefusal}
+use Rattle.admission.specs.declared.Limits.{Limits}
+use Rattle.admission.specs.Admission.{walkRefusal}
 use Rattle.ccd3.specs.declared.Answer.{Answer}
 use Rattle.ccd3.specs.declared.Answer.the-variants.{Touching, Contact, Clear, Budget, Refused}
 use Rattle.ccd3.specs.Walk.{Walked, start, walk, written}

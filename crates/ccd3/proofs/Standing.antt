@@ -23,7 +23,7 @@ use Rattle.number.proofs.Ranges.{zero-to-one}
 use Rattle.number.proofs.Within.{Within, within-finite}
 use Rattle.geometry.specs.Columns.{moved}
 use Rattle.distance.specs.Nearest.{nearestOf}
-use Rattle.pair.specs.declared.record.Limits.{Limits}
+use Rattle.admission.specs.declared.Limits.{Limits}
 use Rattle.ccd3.specs.Step.{park, Visit, next}
 use Rattle.ccd3.specs.Walk.{squaredAt, above, start, visit}
 use Rattle.ccd3.specs.SafeTime.{squaredPark, squaredOffset, firstSquared, touches}

@@ -6,8 +6,8 @@ use mathlib.Core.List.{List}
 use Prim.Native.Nat.{ℕ, zero, suc}
 use lib.Ieee.{Float, lt}
 use Rattle.number.specs.Number.{zero32}
-use Rattle.pair.specs.declared.record.Limits.{Limits}
-use Rattle.pair.specs.Admission.{walkRefusal}
+use Rattle.admission.specs.declared.Limits.{Limits}
+use Rattle.admission.specs.Admission.{walkRefusal}
 use Rattle.ccd3.specs.declared.Answer.the-variants.{Touching, Refused}
 use Rattle.ccd3.specs.Walk.{Walked, start, walk}
 use Rattle.ccd3.specs.SafeTime.{

@@ -7,7 +7,7 @@ use mathlib.Core.List.{List, [], _∷_}
 use lib.Dec.{T}
 use lib.Ieee.{Float, lt, le}
 use Rattle.number.specs.Number.{zero32, nextUp}
-use Rattle.pair.specs.declared.record.Limits.{Limits}
+use Rattle.admission.specs.declared.Limits.{Limits}
 use Rattle.ccd3.specs.Walk.{written, above}
 use Rattle.ccd3.specs.SafeTime.{squaredPark, firstSquared, touches}
 

@@ -5,8 +5,8 @@ use mathlib.Core.List.{List, []}
 use lib.Ieee.{Float, lt, le, eq}
 use Rattle.number.specs.Number.{_⊗_, zero32}
 use Rattle.distance.specs.Nearest.{nearestOf}
-use Rattle.pair.specs.declared.record.Limits.{Limits}
-use Rattle.pair.specs.Admission.{walkRefusal}
+use Rattle.admission.specs.declared.Limits.{Limits}
+use Rattle.admission.specs.Admission.{walkRefusal}
 use Rattle.ccd3.specs.declared.Answer.{Answer}
 use Rattle.ccd3.specs.declared.Answer.the-variants.{Touching, Refused}
 use Rattle.ccd3.specs.declared.SafeTime.{SafeTime}

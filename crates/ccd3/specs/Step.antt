@@ -7,7 +7,7 @@ use lib.Ieee.{Float, binary32, le, ofBits}
 use Rattle.number.specs.Number.{_⊕_, _⊖_, _⊗_, _⊘_, half32, one32, larger}
 use Rattle.number.specs.Root.{rootOf}
 use Rattle.distance.specs.declared.candidate.Nearest.{Nearest}
-use Rattle.pair.specs.declared.record.Limits.{Limits}
+use Rattle.admission.specs.declared.Limits.{Limits}
 use Rattle.ccd3.specs.declared.Aim.{Aim}
 use Rattle.ccd3.specs.Directional.{directional}
 

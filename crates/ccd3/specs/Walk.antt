@@ -9,7 +9,7 @@ use Rattle.number.specs.Number.{zero32, larger}
 use Rattle.number.specs.Halving.{Halved, halve}
 use Rattle.geometry.specs.Columns.{moved}
 use Rattle.distance.specs.Nearest.{nearestOf}
-use Rattle.pair.specs.declared.record.Limits.{Limits}
+use Rattle.admission.specs.declared.Limits.{Limits}
 use Rattle.ccd3.specs.declared.Answer.{Answer}
 use Rattle.ccd3.specs.declared.Answer.the-variants.{Contact, Clear, Budget}
 use Rattle.ccd3.specs.declared.SafeTime.{SafeTime}

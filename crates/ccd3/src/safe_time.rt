@@ -8,9 +8,9 @@ ghost use Rattle.ccd3.specs.Promise.{Touched, Stopped, Passed, Paused};
 use crate::Answer;
 use crate::SafeTime;
 use crate::walk::walk;
+use admission::Limits;
+use admission::admit_walk;
 use distance::nearest::nearest;
-use pair::admission::admit_walk;
-use pair::record::Limits;
 
 // An answer with no walk.
 fn still(answer: Answer) -> SafeTime

@@ -3,10 +3,10 @@ ghost use mathlib.Core.Path.{_≡_};
 ghost use Rattle.ccd3.specs.Step as Def;
 use crate::Aim;
 use crate::directional::directional_advance;
+use admission::Limits;
 use distance::candidate::Nearest;
 use number::order::larger;
 use number::root::root;
-use pair::record::Limits;
 
 // 1 + 2^-22: what makes the norm of a direction err upward.
 const NORM_SLACK: f32 = 1.0000002384185791;

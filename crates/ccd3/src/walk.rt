@@ -6,11 +6,11 @@ use crate::Answer;
 use crate::SafeTime;
 use crate::halving::close_in;
 use crate::step::next_time;
+use admission::Limits;
 use distance::candidate::Nearest;
 use distance::nearest::nearest;
 use geometry::mat3x4_array_of_cols::add_scaled;
 use number::order::larger;
-use pair::record::Limits;
 
 // How many probes a call may make.
 const ALLOWANCE: u32 = 4096;

@@ -23,10 +23,10 @@ use Rattle.geometry.specs.Vec3.{at, col, minus}
 use Rattle.pair.specs.declared.norm.Normed.{Normed}
 use Rattle.pair.specs.declared.norm.Normed.the-variants.{Norm, Refused}
 use Rattle.pair.specs.Count.{count}
-use Rattle.pair.specs.Admission.{limitPoints, splitRefusal}
-use Rattle.pair.specs.Points.{admitted}
+use Rattle.admission.specs.Admission.{limitPoints, splitRefusal}
+use Rattle.admission.specs.Admission.{admitted}
 use Rattle.pair.specs.Norm.{gapSquare, against, largestSquare, normOf, normed, refusalOf, valueOf}
-use Rattle.pair.proofs.Admitted.{within-real, points-within, split-admits}
+use Rattle.admission.proofs.Admitted.{within-real, points-within, split-admits}
 use Rattle.pair.proofs.Counting.{fold-keeps}
 
 -- what zero has and every cross pair's square, the largest square has

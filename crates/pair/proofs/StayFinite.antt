@@ -15,12 +15,12 @@ use Rattle.geometry.specs.Vec3.{at, col, vec}
 use Rattle.geometry.specs.Edge3.{lerpOf}
 use Rattle.geometry.specs.Columns.{mean, moved, centred, scaled}
 use Rattle.pair.specs.declared.points.Placed.{Placed}
-use Rattle.pair.specs.Admission.{ofThree, ofTwelve, finitePoints, limitPoints}
-use Rattle.pair.specs.Admission.{pointsRefusal, factorRefusal, timeRefusal, ratioRefusal}
-use Rattle.pair.specs.Points.{admitted, placed, movedInto, centredIn, scaledIn}
-use Rattle.pair.proofs.Admitted.{within-real, three-each, points-within}
-use Rattle.pair.proofs.Admitted.{points-admits, factor-admits, time-admits, ratio-admits}
-use Rattle.pair.proofs.Taken.{taken}
+use Rattle.admission.specs.Admission.{admitted, ofThree, ofTwelve, finitePoints, limitPoints}
+use Rattle.admission.specs.Admission.{pointsRefusal, factorRefusal, timeRefusal, ratioRefusal}
+use Rattle.pair.specs.Points.{placed, movedInto, centredIn, scaledIn}
+use Rattle.admission.proofs.Admitted.{within-real, three-each, points-within}
+use Rattle.admission.proofs.Admitted.{points-admits, factor-admits, time-admits, ratio-admits}
+use Rattle.admission.proofs.Taken.{taken}
 
 -- three numbers, and twelve, given by place or by column and place, are finite if each is within a power of two
 three : (a : ℕ) (f : ℕ → Float) → ((j : ℕ) → j < 3 → Within a (f j))

@@ -9,8 +9,8 @@ use Rattle.geometry.specs.Vec3.{col, minus, dot}
 use Rattle.pair.specs.declared.norm.Normed.{Normed}
 use Rattle.pair.specs.declared.norm.Normed.the-variants.{Norm, Refused}
 use Rattle.pair.specs.Count.{count}
-use Rattle.pair.specs.Admission.{splitRefusal}
-use Rattle.pair.specs.Points.{admitted}
+use Rattle.admission.specs.Admission.{splitRefusal}
+use Rattle.admission.specs.Admission.{admitted}
 
 -- the squared difference of columns i and j
 unfoldable pub gapSquare : List (List Float) → ℕ → ℕ → Float

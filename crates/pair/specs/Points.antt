@@ -1,20 +1,13 @@
 -- The public calls on points (docs/01-scope.md, "What callers hand over, and the numbers allowed", "Refusal numbers";
 -- edge3.rs, mat3x4_array_of_cols.rs): what each answers and leaves. Definitions only.
-use Prim.Native.Nat.{ℕ}
-use mathlib.Core.Bool.{cond}
 use mathlib.Core.List.{List}
-use lib.Dec.{eqb}
 use lib.Ieee.{Float}
 use Rattle.number.specs.Number.{zero32}
 use Rattle.geometry.specs.Vec3.{vec}
 use Rattle.geometry.specs.Edge3.{lerpOf}
 use Rattle.geometry.specs.Columns.{moved, centred, scaled}
 use Rattle.pair.specs.declared.points.Placed.{Placed}
-use Rattle.pair.specs.Admission.{pointsRefusal, factorRefusal, timeRefusal, ratioRefusal}
-
--- by a refusal number: what an admitted call gives, or what a refused one does
-abbrev pub admitted {ℓ} : {A : Type ℓ} → ℕ → A → A → A
-admitted n given other = cond (eqb n 0) given other
+use Rattle.admission.specs.Admission.{admitted, pointsRefusal, factorRefusal, timeRefusal, ratioRefusal}
 
 -- the place along a segment; a refused one carries zeros
 unfoldable pub placed : List Float → List Float → Float → Placed

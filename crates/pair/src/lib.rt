@@ -1,12 +1,5 @@
-// A pair of pieces of cloth: what callers hand over, whether it is admitted, and the public calls on four points,
-// which refuse (docs/01-scope.md, "What callers hand over, and the numbers allowed", "Refusal numbers").
-// The functions of `geometry` below them are total.
-
-// The records.
-pub mod record;
-
-// Admission: refusals 1 and 2.
-pub mod admission;
+// The public calls on the four points of a pair at one time, which refuse (docs/01-scope.md, "What callers hand over, and
+// the numbers allowed", "Refusal numbers"). The functions of `geometry` and `distance` below them are total.
 
 // A place along a segment; moved, centred, scaled points.
 pub mod points;
@@ -14,8 +7,3 @@ pub mod points;
 // The largest distance between points of the two sides, and the distance of the sides.
 pub mod norm;
 pub mod separation;
-
-// Scaling.
-pub mod coplanar;
-mod factors;
-pub mod scaling;

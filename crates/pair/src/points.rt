@@ -3,9 +3,8 @@
 ghost use mathlib.Core.Path.{_≡_};
 ghost use lib.Dec.{T};
 ghost use Rattle.number.specs.Range.{isFinite};
-ghost use Rattle.pair.specs.Admission as Adm;
+ghost use Rattle.admission.specs.Admission as Adm;
 ghost use Rattle.pair.specs.Points as Def;
-use crate::admission;
 use geometry::edge3;
 use geometry::mat3x4_array_of_cols as columns;
 

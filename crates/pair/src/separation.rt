@@ -2,7 +2,6 @@
 // `distance`. It refuses by 1 and 2 alone.
 ghost use mathlib.Core.Path.{_≡_};
 ghost use Rattle.pair.specs.Separation as Def;
-use crate::admission;
 use distance::nearest;
 
 // A squared distance, the direction from the first side to the second, and which candidate was the first smallest; or

@@ -1,13 +1,12 @@
 // One line for a call: its name, its answer, and what lies there afterwards where something was lent.
 use super::text;
-use pair::admission;
+use admission::Limits;
+use motion::record;
+use motion::scaling;
+use motion::scaling::Scaling;
 use pair::norm;
 use pair::norm::Normed;
 use pair::points;
-use pair::record;
-use pair::record::Limits;
-use pair::scaling;
-use pair::scaling::Scaling;
 use pair::separation;
 
 fn factor(answer: Scaling) {

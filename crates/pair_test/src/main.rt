@@ -3,7 +3,7 @@
 mod cases;
 mod text;
 
-use pair::record::Limits;
+use admission::Limits;
 
 // Four points with one number, and four of many.
 fn lone(a: f32) -> [[f32; 3]; 4] {

@@ -1,9 +1,9 @@
 // A test program: safe times, one a line: its kind, the bits of its time, probes and halvings (docs/01-scope.md, "The
 // walk"; docs/GUARANTEES.md, "Pairs that pass through").
+use admission::Limits;
 use ccd3::Answer;
 use ccd3::safe_time::maximum_safe_time_accurate;
 use libc::STDOUT_FILENO;
-use pair::record::Limits;
 
 fn nan() -> f32 {
     0.0 / 0.0

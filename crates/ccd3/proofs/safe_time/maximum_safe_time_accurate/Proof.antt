@@ -6,10 +6,10 @@ use borrow.Author.Needs.{needs}
 use lib.Dec.{T}
 use lib.Ieee.{Float}
 use denote.Struct.Laws.{owed}
-use Rattle.pair.proofs.record.Limits.{the-type}
-use Rattle.pair.proofs.record.Limits.Laws.{the-laws}
-use Rattle.pair.specs.Admission.{walkRefusal}
-use Rattle.pair.proofs.Admitted.{walk-admits}
+use Rattle.admission.proofs.Limits.{the-type}
+use Rattle.admission.proofs.Limits.Laws.{the-laws}
+use Rattle.admission.specs.Admission.{walkRefusal}
+use Rattle.admission.proofs.Admitted.{walk-admits}
 use Rattle.ccd3.specs.declared.SafeTime.{SafeTime}
 use Rattle.ccd3.specs.declared.Answer.the-variants.{Touching, Contact, Clear, Budget, Refused}
 use Rattle.ccd3.specs.Walk.{told}

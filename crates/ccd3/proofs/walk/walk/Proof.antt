@@ -11,7 +11,7 @@ use Rattle.number.specs.Number.{zero32}
 use Rattle.geometry.specs.Columns.{moved}
 use Rattle.distance.specs.Nearest.{nearestOf}
 use Rattle.distance.specs.declared.candidate.Nearest.{Nearest}
-use Rattle.pair.specs.declared.record.Limits.{Limits}
+use Rattle.admission.specs.declared.Limits.{Limits}
 use Rattle.ccd3.specs.declared.SafeTime.{SafeTime}
 use Rattle.ccd3.specs.Step.{Visit, next}
 use Rattle.ccd3.specs.Walk.{squaredAt, above, visit, walk, told}

@@ -4,7 +4,7 @@ use borrow.Author.Needs.{needs}
 use Rattle.pair.specs.declared.norm.Normed.the-variants.{Norm, Refused}
 use Rattle.pair.specs.Norm.{normed}
 use Rattle.pair.proofs.Norms.{with-number}
-use Rattle.pair.proofs.Taken.{taken, refused}
+use Rattle.admission.proofs.Taken.{taken, refused}
 use Rattle.pair.proofs.norm.max_relative_norm.Statement.{statement}
 use Rattle.pair.proofs.norm.max_relative_norm.Tie as tie
 

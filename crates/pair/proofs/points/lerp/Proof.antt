@@ -10,10 +10,10 @@ use Rattle.number.specs.Range.{isFinite}
 use Rattle.geometry.specs.Vec3.{vec}
 use Rattle.geometry.specs.Edge3.{lerpOf}
 use Rattle.pair.specs.declared.points.Placed.{Placed}
-use Rattle.pair.specs.Admission.{ofThree, ratioRefusal}
-use Rattle.pair.specs.Points.{admitted, placed}
+use Rattle.admission.specs.Admission.{admitted, ofThree, ratioRefusal}
+use Rattle.pair.specs.Points.{placed}
 use Rattle.pair.proofs.StayFinite.{place-finite}
-use Rattle.pair.proofs.Taken.{taken, refused}
+use Rattle.admission.proofs.Taken.{taken, refused}
 use Rattle.pair.proofs.points.lerp.Statement.{statement}
 use Rattle.pair.proofs.points.lerp.Tie as tie
 

@@ -9,9 +9,9 @@ use Rattle.geometry.specs.Vec3.{vec}
 use Rattle.distance.specs.Nearest.{nearestOf}
 use Rattle.distance.specs.declared.candidate.Nearest.{Nearest}
 use Rattle.pair.specs.declared.separation.Measured.{Measured}
-use Rattle.pair.specs.Admission.{splitRefusal}
+use Rattle.admission.specs.Admission.{splitRefusal}
 use Rattle.pair.specs.Separation.{foundAt, refusedBy, measured}
-use Rattle.pair.proofs.Taken.{taken, refused}
+use Rattle.admission.proofs.Taken.{taken, refused}
 use Rattle.pair.proofs.separation.squared_distance.Statement.{statement}
 use Rattle.pair.proofs.separation.squared_distance.Tie as tie
 

@@ -1,11 +1,11 @@
 -- `polynomial_root::newton::descend` meets its contract. The loop's invariant: the steps that are left, from where the
 -- loop stands, lead where all twenty lead from the guess. Assumes nothing.
-use Prim.Native.Nat.{ℕ, suc, _≤_, _<_, _+_, _-_}
+use Prim.Native.Nat.{_≤_, _-_}
 use native.Mathlib.Omega.{arith}
 use mathlib.Core.Path.{_≡_, refl}
 use borrow.Author.Needs.{needs}
 use Rattle.polynomial_root.specs.Newton.{descend}
-use Rattle.polynomial_root.proofs.Steps.{no-step, step-stops, step-refuses, step-goes-on}
+use Rattle.polynomial_root.proofs.Steps.{out-of-steps, stops, refuses, goes-on}
 use Rattle.polynomial_root.proofs.newton.descend.Statement.{statement}
 use Rattle.polynomial_root.proofs.newton.descend.Tie as tie
 
@@ -14,13 +14,6 @@ Inv-loop p t epsilon guess r₀ i₀ r i = (i ≤ 20) × (descend p t epsilon (2
 
 abbrev μ-loop : tie.MeasureT-loop
 μ-loop p t epsilon guess r₀ i₀ r i = 20 - i
-
--- one step fewer is left
-fewer : (i : ℕ) → i < 20 → 20 - i ≡ suc (20 - (i + 1))
-fewer i h = omega arith
-
-none-left : (i : ℕ) → i ≤ 20 → 20 ≤ i → 20 - i ≡ 0
-none-left i h k = omega arith
 
 loop-holds : tie.Need-loop-holds Inv-loop μ-loop
 loop-holds c = (omega arith, refl)
@@ -33,20 +26,24 @@ size-requires c κs = search needs
 
 returns : tie.Need-returns Inv-loop μ-loop
 returns c =
-    let s = c .before .before .before .before in
+    let v = c .before .before in
+    let s = v .before .before in
     let a = s .before .args in
-    let k = 20 - (s .loop .i + 1) in
-    cc (fewer (s .loop .i) (omega arith), step-stops (a .p) (a .t) (a .epsilon) k (s .loop .r) (cc))
+    stops (a .p) (a .t) (a .epsilon) (a .guess) (s .loop .r) (s .loop .i) (s .loop .inv .1)
+    (v .before .loop-test .taken) _ (v .value-at .ensures) _ (c .before .size .ensures) (c .if1 .taken)
 
 slope-at-requires : tie.Need-slope-at-requires Inv-loop μ-loop
 slope-at-requires c κs = search needs
 
 returns-2 : tie.Need-returns-2 Inv-loop μ-loop
 returns-2 c =
-    let s = c .before .before .before .before .before .before in
+    let e = c .before .before in
+    let v = e .before .before in
+    let s = v .before .before in
     let a = s .before .args in
-    let k = 20 - (s .loop .i + 1) in
-    cc (fewer (s .loop .i) (omega arith), step-refuses (a .p) (a .t) (a .epsilon) k (s .loop .r) (cc) (cc))
+    refuses (a .p) (a .t) (a .epsilon) (a .guess) (s .loop .r) (s .loop .i) (s .loop .inv .1)
+    (v .before .loop-test .taken) _ (v .value-at .ensures) _ (e .before .size .ensures) (e .if1 .left)
+    _ (c .before .slope-at .ensures) (c .if2 .taken)
 
 clamp-requires : tie.Need-clamp-requires Inv-loop μ-loop
 clamp-requires c κs = search needs
@@ -59,18 +56,23 @@ loop-less c = omega arith
 
 loop-again : tie.Need-loop-again Inv-loop μ-loop
 loop-again c =
-    let s = c .before .before .before .before .before .before .before in
-    let a = s .before .args in
-    let k = 20 - (s .loop .i + 1) in (
+    let d = c .before .before in
+    let e = d .before in
+    let v = e .before .before in
+    let s = v .before .before in
+    let a = s .before .args in (
       omega arith,
-      cc (fewer (s .loop .i) (omega arith), step-goes-on (a .p) (a .t) (a .epsilon) k (s .loop .r) (cc) (cc)),
+      goes-on (a .p) (a .t) (a .epsilon) (a .guess) (s .loop .r) (s .loop .i) (s .loop .inv .1)
+      (v .before .loop-test .taken) _ (v .value-at .ensures) _ (e .before .size .ensures) (e .if1 .left)
+      _ (d .slope-at .ensures) (c .before .if2 .left) _ (c .clamp .ensures),
     )
 
 returns-3 : tie.Need-returns-3 Inv-loop μ-loop
 returns-3 c =
     let s = c .before in
     let a = s .before .args in
-    cc (none-left (s .loop .i) (omega arith) (omega arith), no-step (a .p) (a .t) (a .epsilon) (s .loop .r))
+    out-of-steps (a .p) (a .t) (a .epsilon) (a .guess) (s .loop .r) (s .loop .i) (s .loop .inv .1) (s .loop .inv .0)
+    (c .loop-test .left)
 
 pub descend-spec : {M : Type 1} → statement M
 descend-spec =

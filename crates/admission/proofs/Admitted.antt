@@ -1,0 +1,215 @@
+-- What a verdict says: 0 puts every number in its range and the split at 2 or 3; 1 is met exactly where some number is
+-- not finite; 2 exactly where all are and something lies beyond its range. Assumes nothing.
+use Prim.Native.Nat.{ℕ, zero, suc, _<_}
+use native.Mathlib.Omega.{arith}
+use mathlib.Core.Path.{_≡_, refl, sym, subst}
+use mathlib.Core.Logic.{_⊎_, inl, inr, _↔_}
+use mathlib.Core.Bool.{Bool, true, false, not, _&&_, _||_}
+use mathlib.Core.List.{List}
+use lib.Dec.{T, eqb, eqb→eq}
+use lib.Ieee.{Float}
+use lib.Ieee.Bits.{is-true}
+use lib.Ieee.Fits.{and-i, and-l, and-r}
+use Rattle.number.specs.Range.{isFinite, inLimit, zeroToLimit, zeroToOne, speedRange}
+use Rattle.number.proofs.Within.{Within, within-finite}
+use Rattle.number.proofs.Finite.{is-finite}
+use Rattle.number.proofs.Ranges.{in-limit, zero-to-limit, zero-to-one, speed-range}
+use Rattle.geometry.specs.Vec3.{at, col}
+use Rattle.admission.specs.declared.Limits.{Limits}
+use Rattle.admission.specs.Admission.{refusal, ofThree, ofTwelve, finitePoints, limitPoints, isSplit, rangedLimits}
+use Rattle.admission.specs.Admission.{finiteLimits, finiteWalk, rangedWalk, walkRefusal}
+use Rattle.admission.specs.Admission.{pointsRefusal, splitRefusal, factorRefusal, timeRefusal, ratioRefusal}
+
+-- ---- the three numbers of a verdict
+pub refusal-none : (finite ranged : Bool) → refusal finite ranged ≡ 0 → T finite × T ranged
+refusal-none true true e = (tt, tt)
+refusal-none true false e = omega arith
+refusal-none false true e = omega arith
+refusal-none false false e = omega arith
+
+pub refusal-first : (finite ranged : Bool) → (refusal finite ranged ≡ 1) ↔ T (not finite)
+refusal-first true true = (λ e. omega arith, λ n. absurd n)
+refusal-first true false = (λ e. omega arith, λ n. absurd n)
+refusal-first false ranged = (λ e. tt, λ n. refl)
+
+pub refusal-second : (finite ranged : Bool) → (refusal finite ranged ≡ 2) ↔ (T finite × T (not ranged))
+refusal-second true true = (λ e. omega arith, λ n. absurd (n .1))
+refusal-second true false = (λ e. (tt, tt), λ n. refl)
+refusal-second false ranged = (λ e. absurd (omega arith), λ n. absurd (n .0))
+
+-- ---- the numbers of four points, by column and place
+abbrev pub Each : (Float → Bool) → List (List Float) → Type 0
+Each test x = (i j : ℕ) → i < 4 → j < 3 → T (test (at (col x i) j))
+
+-- the parts of a conjunction
+triple : (a b c : Bool) → T (a && b && c) → T a × T b × T c
+triple a b c h = let ab = and-l (a && b) c h in (and-l a b ab, and-r a b ab, and-r (a && b) c h)
+
+quadruple : (a b c d : Bool) → T (a && b && c && d) → T a × T b × T c × T d
+quadruple a b c d h =
+    let abc = triple a b c (and-l (a && b && c) d h) in
+    (abc .0, abc .1, abc .2, and-r (a && b && c) d h)
+
+module _ (test : Float → Bool) where
+  pub three-each : (v : List Float) → T (ofThree test v) → (j : ℕ) → j < 3 → T (test (at v j))
+  three-each v h zero l = triple (test (at v 0)) (test (at v 1)) (test (at v 2)) h .0
+  three-each v h (suc zero) l = triple (test (at v 0)) (test (at v 1)) (test (at v 2)) h .1
+  three-each v h (suc (suc zero)) l = triple (test (at v 0)) (test (at v 1)) (test (at v 2)) h .2
+  three-each v h (suc (suc (suc j))) l = absurd (omega arith)
+
+  pub twelve-each : (x : List (List Float)) → T (ofTwelve test x) → Each test x
+  twelve-each x h = go
+    where
+      row : ℕ → Bool
+      row i = ofThree test (col x i)
+
+      all : T (row 0) × T (row 1) × T (row 2) × T (row 3)
+      all = quadruple (row 0) (row 1) (row 2) (row 3) h
+
+      go : Each test x
+      go zero j k l = three-each (col x 0) (all .0) j l
+      go (suc zero) j k l = three-each (col x 1) (all .1) j l
+      go (suc (suc zero)) j k l = three-each (col x 2) (all .2) j l
+      go (suc (suc (suc zero))) j k l = three-each (col x 3) (all .3) j l
+      go (suc (suc (suc (suc i)))) j k l = absurd (omega arith)
+
+-- each number of points within the limit is at most 2 ^ 20 in size
+pub points-within : (x : List (List Float)) → T (limitPoints x)
+    → (i j : ℕ) → i < 4 → j < 3 → Within 20 (at (col x i) j)
+unfolding limitPoints
+points-within x h i j k l = in-limit (at (col x i) j) (twelve-each inLimit x h i j k l)
+
+-- ---- what lies in its range is finite
+pub within-real : (a : ℕ) (x : Float) → Within a x → T (isFinite x)
+within-real a x h = subst T (sym (is-finite x)) (within-finite a x h)
+
+limit-real : (x : Float) → T (inLimit x) → T (isFinite x)
+limit-real x h = within-real 20 x (in-limit x h)
+
+three-real : (v : List Float) → T (ofThree inLimit v) → T (ofThree isFinite v)
+three-real v h =
+    let t = triple (inLimit (at v 0)) (inLimit (at v 1)) (inLimit (at v 2)) h in
+    and-i (isFinite (at v 0) && isFinite (at v 1)) (isFinite (at v 2))
+    (and-i (isFinite (at v 0)) (isFinite (at v 1)) (limit-real (at v 0) (t .0)) (limit-real (at v 1) (t .1)))
+    (limit-real (at v 2) (t .2))
+
+points-real : (x : List (List Float)) → T (limitPoints x) → T (finitePoints x)
+unfolding limitPoints finitePoints
+points-real x h =
+    let range : ℕ → Bool = λ i. ofThree inLimit (col x i) in
+    let real : ℕ → Bool = λ i. ofThree isFinite (col x i) in
+    let q = quadruple (range 0) (range 1) (range 2) (range 3) h in
+    and-i (real 0 && real 1 && real 2) (real 3)
+    (and-i (real 0 && real 1) (real 2)
+    (and-i (real 0) (real 1) (three-real (col x 0) (q .0)) (three-real (col x 1) (q .1)))
+    (three-real (col x 2) (q .2))) (three-real (col x 3) (q .3))
+
+limits-real : (l : Limits) → T (rangedLimits l) → T (finiteLimits l)
+unfolding rangedLimits finiteLimits
+limits-real l h =
+    let o = l .offset in
+    let c = l .clearance in
+    let t = l .«max_t» in
+    let u = l .«u_max» in
+    let q = quadruple (zeroToLimit o) (zeroToLimit c) (zeroToOne t) (speedRange u) h in
+    and-i (isFinite o && isFinite c && isFinite t) (isFinite u)
+    (and-i (isFinite o && isFinite c) (isFinite t)
+    (and-i (isFinite o) (isFinite c) (within-real 20 o (zero-to-limit o (q .0) .1))
+    (within-real 20 c (zero-to-limit c (q .1) .1))) (within-real 0 t (zero-to-one t (q .2) .2)))
+    (within-real 60 u (speed-range u (q .3) .2))
+
+-- ---- the split
+pub split-parts : (split : ℕ) → T (isSplit split) → (split ≡ 2) ⊎ (split ≡ 3)
+split-parts split h = go (eqb split 2) (eqb split 3) (eqb→eq split 2) (eqb→eq split 3) h
+  where
+    go : (a b : Bool) → (T a → split ≡ 2) → (T b → split ≡ 3) → T (a || b) → (split ≡ 2) ⊎ (split ≡ 3)
+    go true b f g h = inl (f tt)
+    go false true f g h = inr (g tt)
+    go false false f g h = absurd h
+
+-- ---- the safe time
+pub record Walkable (x dx : List (List Float)) (split : ℕ) (l : Limits) : Type 0 where
+  pub points : T (limitPoints x)
+  pub displacements : T (limitPoints dx)
+  pub offset : T (zeroToLimit (l .offset))
+  pub clearance : T (zeroToLimit (l .clearance))
+  pub max-t : T (zeroToOne (l .«max_t»))
+  pub u-max : T (speedRange (l .«u_max»))
+  pub parts : (split ≡ 2) ⊎ (split ≡ 3)
+
+module _ (x dx : List (List Float)) (split : ℕ) (l : Limits) where
+  pub walk-admits : walkRefusal x dx split l ≡ 0 → Walkable x dx split l
+  unfolding walkRefusal rangedLimits
+  walk-admits e =
+      let r = refusal-none (finiteWalk x dx l) (rangedWalk x dx split l) e .1 in
+      let q = quadruple (limitPoints x) (limitPoints dx) (rangedLimits l) (isSplit split) r in
+      let p =
+      quadruple (zeroToLimit (l .offset)) (zeroToLimit (l .clearance)) (zeroToOne (l .«max_t»))
+      (speedRange (l .«u_max»)) (q .2)
+      in
+      record {
+        points = q .0;
+        displacements = q .1;
+        offset = p .0;
+        clearance = p .1;
+        max-t = p .2;
+        u-max = p .3;
+        parts = split-parts split (q .3);
+      }
+
+  pub walk-real : T (rangedWalk x dx split l) → T (finiteWalk x dx l)
+  walk-real h =
+      let q = quadruple (limitPoints x) (limitPoints dx) (rangedLimits l) (isSplit split) h in
+      and-i (finitePoints x && finitePoints dx) (finiteLimits l)
+      (and-i (finitePoints x) (finitePoints dx) (points-real x (q .0)) (points-real dx (q .1))) (limits-real l (q .2))
+
+  -- in its range: admitted; beyond it: the verdict on finite numbers alone
+  pub walk-none : rangedWalk x dx split l ≡ true → 0 ≡ walkRefusal x dx split l
+  unfolding walkRefusal
+  walk-none e = rw (is-true (finiteWalk x dx l) (walk-real (subst T (sym e) tt)), e)
+
+  pub walk-beyond : rangedWalk x dx split l ≡ false → refusal (finiteWalk x dx l) false ≡ walkRefusal x dx split l
+  unfolding walkRefusal
+  walk-beyond e = rw e
+
+  pub walk-first : (walkRefusal x dx split l ≡ 1) ↔ T (not (finiteWalk x dx l))
+  unfolding walkRefusal
+  walk-first = refusal-first (finiteWalk x dx l) (rangedWalk x dx split l)
+
+  pub walk-second : (walkRefusal x dx split l ≡ 2) ↔ (T (finiteWalk x dx l) × T (not (rangedWalk x dx split l)))
+  unfolding walkRefusal
+  walk-second = refusal-second (finiteWalk x dx l) (rangedWalk x dx split l)
+
+-- ---- the calls on points
+module _ (x : List (List Float)) where
+  pub points-admits : pointsRefusal x ≡ 0 → T (limitPoints x)
+  unfolding pointsRefusal
+  points-admits e = refusal-none (finitePoints x) (limitPoints x) e .1
+
+  pub split-admits : (split : ℕ) → splitRefusal x split ≡ 0 → T (limitPoints x) × T (isSplit split)
+  unfolding splitRefusal
+  split-admits split e =
+      let r = refusal-none (finitePoints x) (limitPoints x && isSplit split) e .1 in
+      (and-l (limitPoints x) (isSplit split) r, and-r (limitPoints x) (isSplit split) r)
+
+  pub factor-admits : (s : Float) → factorRefusal x s ≡ 0 → T (limitPoints x) × T (zeroToLimit s)
+  unfolding factorRefusal
+  factor-admits s e =
+      let r = refusal-none (finitePoints x && isFinite s) (limitPoints x && zeroToLimit s) e .1 in
+      (and-l (limitPoints x) (zeroToLimit s) r, and-r (limitPoints x) (zeroToLimit s) r)
+
+  pub time-admits : (dx : List (List Float)) (t : Float) → timeRefusal x dx t ≡ 0
+      → T (limitPoints x) × T (limitPoints dx) × T (zeroToOne t)
+  unfolding timeRefusal
+  time-admits dx t e =
+      let f = finitePoints x && finitePoints dx && isFinite t in
+      let r = limitPoints x && limitPoints dx && zeroToOne t in
+      triple (limitPoints x) (limitPoints dx) (zeroToOne t) (refusal-none f r e .1)
+
+pub ratio-admits : (p q : List Float) (s : Float) → ratioRefusal p q s ≡ 0
+    → T (ofThree inLimit p) × T (ofThree inLimit q) × T (zeroToOne s)
+unfolding ratioRefusal
+ratio-admits p q s e =
+    let f = ofThree isFinite p && ofThree isFinite q && isFinite s in
+    let r = ofThree inLimit p && ofThree inLimit q && zeroToOne s in
+    triple (ofThree inLimit p) (ofThree inLimit q) (zeroToOne s) (refusal-none f r e .1)

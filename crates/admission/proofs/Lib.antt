@@ -1,0 +1,3 @@
+-- Laws that other crates cite. Assumes nothing.
+pub mod Admitted
+pub mod Taken

@@ -1,0 +1,15 @@
+-- `admission::admit_motion` meets its contract. Assumes nothing.
+use borrow.Author.Needs.{needs}
+use Rattle.admission.specs.Admission.{motionRefusal}
+use Rattle.admission.proofs.admit_motion.Statement.{statement}
+use Rattle.admission.proofs.admit_motion.Tie as tie
+
+returns : tie.Need-returns
+unfolding motionRefusal
+returns c = cc
+
+pub admit-motion-spec : {M : Type 1} → statement M
+admit-motion-spec =
+    tie.close
+    (tie.spec (λ c κs. search needs) (λ c κs. search needs) (λ c κs. search needs) (λ c κs. search needs)
+    (λ c κs. search needs) returns)

@@ -1,0 +1,22 @@
+-- `admission::admit_points` meets its contract. Assumes nothing.
+use borrow.Author.Needs.{needs}
+use Rattle.admission.specs.Admission.{pointsRefusal}
+use Rattle.admission.proofs.admit_points.Statement.{statement}
+use Rattle.admission.proofs.admit_points.Tie as tie
+
+points-finite-requires : tie.Need-points-finite-requires
+points-finite-requires c κs = search needs
+
+points-in-limit-requires : tie.Need-points-in-limit-requires
+points-in-limit-requires c κs = search needs
+
+verdict-requires : tie.Need-verdict-requires
+verdict-requires c κs = search needs
+
+returns : tie.Need-returns
+unfolding pointsRefusal
+returns c = cc
+
+pub admit-points-spec : {M : Type 1} → statement M
+admit-points-spec =
+    tie.close (tie.spec points-finite-requires points-in-limit-requires verdict-requires returns)

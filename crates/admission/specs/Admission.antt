@@ -1,0 +1,80 @@
+-- What is handed over is admitted, or refused by a number (docs/01-scope.md, "What callers hand over, and the numbers
+-- allowed", "Refusal numbers"). Definitions only.
+use Prim.Native.Nat.{ℕ}
+use mathlib.Core.Bool.{Bool, cond, _&&_, _||_}
+use mathlib.Core.List.{List}
+use lib.Dec.{eqb}
+use lib.Ieee.{Float}
+use Rattle.number.specs.Range.{isFinite, inLimit, zeroToLimit, zeroToOne, speedRange}
+use Rattle.geometry.specs.Vec3.{at, col}
+use Rattle.admission.specs.declared.Limits.{Limits}
+
+-- 1 where some number is not finite, else 2 where something lies beyond its range, else 0: admitted
+abbrev pub refusal : Bool → Bool → ℕ
+refusal finite ranged = cond finite (cond ranged 0 2) 1
+
+-- by a refusal number: what an admitted call gives, or what a refused one does
+abbrev pub admitted {ℓ} : {A : Type ℓ} → ℕ → A → A → A
+admitted n given other = cond (eqb n 0) given other
+
+-- a test passed by the three numbers of a point, by the twelve of four points
+abbrev pub ofThree : (Float → Bool) → List Float → Bool
+ofThree test v = test (at v 0) && test (at v 1) && test (at v 2)
+
+abbrev pub ofTwelve : (Float → Bool) → List (List Float) → Bool
+ofTwelve test x =
+    ofThree test (col x 0) && ofThree test (col x 1) && ofThree test (col x 2) && ofThree test (col x 3)
+
+unfoldable pub finitePoints : List (List Float) → Bool
+finitePoints x = ofTwelve isFinite x
+
+unfoldable pub limitPoints : List (List Float) → Bool
+limitPoints x = ofTwelve inLimit x
+
+-- two points against two, or three against one
+abbrev pub isSplit : ℕ → Bool
+isSplit split = eqb split 2 || eqb split 3
+
+-- the four limits of a safe time
+unfoldable pub finiteLimits : Limits → Bool
+finiteLimits l = isFinite (l .offset) && isFinite (l .clearance) && isFinite (l .«max_t») && isFinite (l .«u_max»)
+
+unfoldable pub rangedLimits : Limits → Bool
+rangedLimits l =
+    zeroToLimit (l .offset) && zeroToLimit (l .clearance) && zeroToOne (l .«max_t») && speedRange (l .«u_max»)
+
+-- a safe time: the 24 numbers of a pair, its split, its limits
+abbrev pub finiteWalk : List (List Float) → List (List Float) → Limits → Bool
+finiteWalk x dx l = finitePoints x && finitePoints dx && finiteLimits l
+
+abbrev pub rangedWalk : List (List Float) → List (List Float) → ℕ → Limits → Bool
+rangedWalk x dx split l = limitPoints x && limitPoints dx && rangedLimits l && isSplit split
+
+unfoldable pub walkRefusal : List (List Float) → List (List Float) → ℕ → Limits → ℕ
+walkRefusal x dx split l = refusal (finiteWalk x dx l) (rangedWalk x dx split l)
+
+-- four points; four points and their split, as a norm and a distance take them
+unfoldable pub pointsRefusal : List (List Float) → ℕ
+pointsRefusal x = refusal (finitePoints x) (limitPoints x)
+
+unfoldable pub splitRefusal : List (List Float) → ℕ → ℕ
+splitRefusal x split = refusal (finitePoints x) (limitPoints x && isSplit split)
+
+-- four points and a factor of 0 to 2 ^ 20
+unfoldable pub factorRefusal : List (List Float) → Float → ℕ
+factorRefusal x s = refusal (finitePoints x && isFinite s) (limitPoints x && zeroToLimit s)
+
+-- a pair's 24 numbers: coplanar times
+unfoldable pub motionRefusal : List (List Float) → List (List Float) → ℕ
+motionRefusal x dx = refusal (finitePoints x && finitePoints dx) (limitPoints x && limitPoints dx)
+
+-- a pair's 24 numbers and a time of 0 to 1: moved points, scaling
+unfoldable pub timeRefusal : List (List Float) → List (List Float) → Float → ℕ
+timeRefusal x dx t =
+    refusal (finitePoints x && finitePoints dx && isFinite t) (limitPoints x && limitPoints dx && zeroToOne t)
+
+-- the ends of a segment and a ratio of 0 to 1
+unfoldable pub ratioRefusal : List Float → List Float → Float → ℕ
+ratioRefusal p q s =
+    refusal (ofThree isFinite p && ofThree isFinite q && isFinite s)
+    (ofThree inLimit p && ofThree inLimit q && zeroToOne s)

@@ -1,0 +1,2 @@
+-- What the contracts of `admission`, and of the calls that ask it, cite. Definitions only.
+pub mod Admission

@@ -1,0 +1,154 @@
+// The one place that tests what callers hand over (docs/01-scope.md, "What callers hand over, and the numbers
+// allowed", "Refusal numbers"): 1, some number is NaN or infinite; 2, none is, but one lies beyond its range, or the
+// split is neither 2 nor 3; 0, admitted.
+ghost use mathlib.Core.Path.{_≡_};
+ghost use Rattle.number.specs.Range.{isFinite, inLimit};
+ghost use Rattle.admission.specs.Admission as Def;
+use number::range;
+
+// What the safe time is asked with, beside the pair and its split.
+#[repr(C)]
+pub struct Limits {
+    pub offset: f32,
+    pub clearance: f32,
+    pub max_t: f32,
+    pub u_max: f32,
+}
+
+// 1 before 2 before 0.
+pub fn verdict(finite: bool, ranged: bool) -> u32
+    ensures { λ r. ⌜ r ≡ Def.refusal finite ranged ⌝ }
+{
+    if finite {
+        if ranged { 0 } else { 2 }
+    } else {
+        1
+    }
+}
+
+// Two points against two, or three against one.
+pub fn is_split(split: usize) -> bool
+    ensures { λ r. ⌜ r ≡ Def.isSplit split ⌝ }
+{
+    (split == 2) | (split == 3)
+}
+
+fn three_finite(v: [f32; 3]) -> bool
+    ensures { λ r. ⌜ r ≡ Def.ofThree isFinite v ⌝ }
+{
+    range::is_finite(v[0]) & range::is_finite(v[1]) & range::is_finite(v[2])
+}
+
+fn three_in_limit(v: [f32; 3]) -> bool
+    ensures { λ r. ⌜ r ≡ Def.ofThree inLimit v ⌝ }
+{
+    range::in_limit(v[0]) & range::in_limit(v[1]) & range::in_limit(v[2])
+}
+
+// The twelve numbers of four points are finite.
+pub fn points_finite(x: [[f32; 3]; 4]) -> bool
+    ensures { λ r. ⌜ r ≡ Def.finitePoints x ⌝ }
+{
+    let a = x[0];
+    let b = x[1];
+    let c = x[2];
+    let d = x[3];
+    three_finite(a) & three_finite(b) & three_finite(c) & three_finite(d)
+}
+
+// The twelve numbers of four points are 2^20 in size at most.
+pub fn points_in_limit(x: [[f32; 3]; 4]) -> bool
+    ensures { λ r. ⌜ r ≡ Def.limitPoints x ⌝ }
+{
+    let a = x[0];
+    let b = x[1];
+    let c = x[2];
+    let d = x[3];
+    three_in_limit(a) & three_in_limit(b) & three_in_limit(c) & three_in_limit(d)
+}
+
+fn limits_finite(limits: Limits) -> bool
+    ensures { λ r. ⌜ r ≡ Def.finiteLimits limits ⌝ }
+{
+    range::is_finite(limits.offset)
+        & range::is_finite(limits.clearance)
+        & range::is_finite(limits.max_t)
+        & range::is_finite(limits.u_max)
+}
+
+fn limits_ranged(limits: Limits) -> bool
+    ensures { λ r. ⌜ r ≡ Def.rangedLimits limits ⌝ }
+{
+    range::zero_to_limit(limits.offset)
+        & range::zero_to_limit(limits.clearance)
+        & range::zero_to_one(limits.max_t)
+        & range::speed_range(limits.u_max)
+}
+
+// The safe time: 24 numbers of a pair, its split, four limits. What lies in its range is finite, so that the ranges
+// alone are tested of what is admitted.
+pub fn admit_walk(x0: [[f32; 3]; 4], dx: [[f32; 3]; 4], split: usize, limits: Limits) -> u32
+    ensures { λ r. ⌜ r ≡ Def.walkRefusal x0 dx split limits ⌝ }
+{
+    if points_in_limit(x0) & points_in_limit(dx) & limits_ranged(limits) & is_split(split) {
+        return 0;
+    }
+    verdict(
+        points_finite(x0) & points_finite(dx) & limits_finite(limits),
+        false,
+    )
+}
+
+// Four points.
+pub fn admit_points(x: [[f32; 3]; 4]) -> u32
+    ensures { λ r. ⌜ r ≡ Def.pointsRefusal x ⌝ }
+{
+    verdict(points_finite(x), points_in_limit(x))
+}
+
+// Four points and their split: the norm, the distance.
+pub fn admit_split(x: [[f32; 3]; 4], split: usize) -> u32
+    ensures { λ r. ⌜ r ≡ Def.splitRefusal x split ⌝ }
+{
+    verdict(points_finite(x), points_in_limit(x) & is_split(split))
+}
+
+// Four points and a factor.
+pub fn admit_factor(x: [[f32; 3]; 4], s: f32) -> u32
+    ensures { λ r. ⌜ r ≡ Def.factorRefusal x s ⌝ }
+{
+    verdict(
+        points_finite(x) & range::is_finite(s),
+        points_in_limit(x) & range::zero_to_limit(s),
+    )
+}
+
+// The 24 numbers of a pair: coplanar times.
+pub fn admit_motion(x: [[f32; 3]; 4], dx: [[f32; 3]; 4]) -> u32
+    ensures { λ r. ⌜ r ≡ Def.motionRefusal x dx ⌝ }
+{
+    verdict(
+        points_finite(x) & points_finite(dx),
+        points_in_limit(x) & points_in_limit(dx),
+    )
+}
+
+// The 24 numbers of a pair and a time: moved points, scaling.
+pub fn admit_time(x: [[f32; 3]; 4], dx: [[f32; 3]; 4], t: f32) -> u32
+    ensures { λ r. ⌜ r ≡ Def.timeRefusal x dx t ⌝ }
+{
+    verdict(
+        points_finite(x) & points_finite(dx) & range::is_finite(t),
+        points_in_limit(x) & points_in_limit(dx) & range::zero_to_one(t),
+    )
+}
+
+// The ends of a segment and a ratio.
+pub fn admit_ratio(p0: [f32; 3], p1: [f32; 3], ratio: f32) -> u32
+    ensures { λ r. ⌜ r ≡ Def.ratioRefusal p0 p1 ratio ⌝ }
+{
+    verdict(
+        three_finite(p0) & three_finite(p1) & range::is_finite(ratio),
+        three_in_limit(p0) & three_in_limit(p1) & range::zero_to_one(ratio),
+    )
+}

@@ -1,0 +1,52 @@
+-- The outcome of a scaling, case by case, over the values that the calls of `motion::scaling::scaled_pair` give: by
+-- which test it is refused and by which number, and when it is taken. Assumes nothing.
+use Prim.Native.Nat.{ℕ}
+use native.Mathlib.Omega.{arith}
+use mathlib.Core.Path.{_≡_, refl, sym, ap, _∙_}
+use mathlib.Core.Bool.{Bool, true, false}
+use lib.Ieee.{Float}
+use borrow.Author.Tests.{eq-eqb, ne-eqb}
+use Rattle.motion.specs.declared.record.Pair.{Pair}
+use Rattle.motion.specs.declared.factors.Factors.{Factors}
+use Rattle.motion.specs.declared.scaling.Outcome.{Outcome}
+use Rattle.motion.specs.declared.scaling.Scaling.the-variants.{Factor, Refused}
+use Rattle.motion.specs.Factors.{usable, factorsOf}
+use Rattle.motion.specs.Scaling.{firstFactor, factorsFor, scaledWith, scaledPair, finitePair}
+use Rattle.motion.specs.Scaling.{pairRefusal, scalingRefusal, scalingOf, leaves, refusedBy, outcome}
+
+module _ (p : Pair) (t : Float) where
+  refused-by : (n : ℕ) → scalingRefusal p t ≡ n → (n ≡ 0 → ⊥) → refusedBy p n ≡ outcome p t
+  unfolding outcome scalingOf leaves
+  refused-by n e z = rw (e, ne-eqb n 0 z)
+
+  taken : scalingRefusal p t ≡ 0
+      → _≡_ {A = Outcome} (record { taken = true; answer = Factor (factorsFor p t .product); pair = scaledPair p t })
+      (outcome p t)
+  unfolding outcome scalingOf leaves
+  taken e = rw e
+
+  module _ (n : ℕ) (en : n ≡ pairRefusal p t) where
+    pub by-admission : (n ≡ 0 → ⊥) → refusedBy p n ≡ outcome p t
+    unfolding scalingRefusal
+    by-admission h = refused-by n (rw (← en, ne-eqb n 0 h)) h
+
+    module _ (z : n ≡ 0) (f : Float) (ef : f ≡ firstFactor p t) (u : Bool) (eu : u ≡ usable f) where
+      pub by-use : u ≡ false → refusedBy p 4 ≡ outcome p t
+      unfolding scalingRefusal
+      by-use h = refused-by 4 (rw (← en, eq-eqb n 0 z, ← ef, ← eu, h)) (λ e. omega arith)
+
+      module _
+          (w : u ≡ true) (by : Factors) (eb : by ≡ factorsOf f) (q : Pair) (eq : q ≡ scaledWith by p) (b : Bool)
+          (ok : b ≡ finitePair q)
+        where
+          pub by-size : b ≡ false → refusedBy p 5 ≡ outcome p t
+          unfolding scalingRefusal
+          by-size h =
+              refused-by 5 (rw (← en, eq-eqb n 0 z, ← ef, ← eu, w, ← eb, ← eq, ← ok, h)) (λ e. omega arith)
+
+          pub by-none : b ≡ true
+              → _≡_ {A = Outcome} (record { taken = true; answer = Factor (by .product); pair = q }) (outcome p t)
+          unfolding scalingRefusal
+          by-none h =
+              let none : scalingRefusal p t ≡ 0 = rw (← en, eq-eqb n 0 z, ← ef, ← eu, w, ← eb, ← eq, ← ok, h) in
+              rw (eq, eb, ef) (taken none)

@@ -1,0 +1,22 @@
+-- `motion::coplanar::motion_cubic` meets its contract. Assumes nothing.
+use mathlib.Core.Path.{_≡_, _∙_}
+use borrow.Author.Needs.{needs}
+use Rattle.motion.specs.Coplanar.{volume, motionCubic}
+use Rattle.motion.proofs.coplanar.motion_cubic.Statement.{statement}
+use Rattle.motion.proofs.coplanar.motion_cubic.Tie as tie
+
+returns : tie.Need-returns
+unfolding motionCubic
+returns c =
+    c .volume .ensures
+    ∙ (λ i.
+    volume (c .before .before .before .before .before .before .sub .ensures i) (c .before .before .before .before .before .sub2 .ensures i) (c .before .before .before .before .sub3 .ensures i)
+    (c .before .before .before .sub4 .ensures i) (c .before .before .sub5 .ensures i) (c .before .sub6 .ensures i))
+
+pub motion-cubic-spec : {M : Type 1} → statement M
+motion-cubic-spec =
+    tie.close
+    (tie.spec (λ c. search needs) (λ c. search needs) (λ c. search needs) (λ c. search needs) (λ c. search needs)
+    (λ c. search needs) (λ c. search needs) (λ c. search needs) (λ c κs. search needs) (λ c κs. search needs)
+    (λ c κs. search needs) (λ c κs. search needs) (λ c κs. search needs) (λ c κs. search needs)
+    (λ c κs. search needs) returns)

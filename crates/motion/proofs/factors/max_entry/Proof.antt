@@ -1,0 +1,77 @@
+-- `motion::factors::max_entry` meets its contract: what the columns still to come make of the largest so far is what all
+-- four make of zero. Assumes nothing.
+use Prim.Native.Nat.{ℕ, _-_, _≤_}
+use native.Mathlib.Omega.{arith}
+use mathlib.Core.Path.{_≡_, refl, _∙_}
+use mathlib.Core.List.{List, foldl}
+use lib.Ieee.{Float}
+use borrow.Author.Needs.{needs}
+use Rattle.geometry.specs.Vec3.{col}
+use Rattle.pair.specs.Count.{count}
+use Rattle.motion.specs.Factors.{reachColumn, maxEntry}
+use Rattle.pair.proofs.Counting.{fold-turn, fold-done}
+use Rattle.motion.proofs.factors.max_entry.Statement.{statement}
+use Rattle.motion.proofs.factors.max_entry.Tie as tie
+
+-- one column more
+abbrev turn : List (List Float) → List (List Float) → Float → Float → ℕ → Float
+turn x dx t most i = reachColumn t most (col x i) (col dx i)
+
+abbrev Inv-loop : tie.InvT-loop
+Inv-loop max-t x dx most₀ i₀ most i =
+    (i ≤ 4) × (foldl (turn x dx max-t) most (count i (4 - i)) ≡ maxEntry x dx max-t)
+
+abbrev μ-loop : tie.MeasureT-loop
+μ-loop max-t x dx most₀ i₀ most i = 4 - i
+
+loop-holds : tie.Need-loop-holds Inv-loop μ-loop
+unfolding maxEntry
+loop-holds c = (search needs, refl)
+
+mul-v : tie.Need-mul-v Inv-loop μ-loop
+mul-v c = omega arith
+
+array-copy-out-v : tie.Need-array-copy-out-v Inv-loop μ-loop
+array-copy-out-v c = omega arith
+
+mul-d : tie.Need-mul-d Inv-loop μ-loop
+mul-d c = omega arith
+
+array-copy-out-d : tie.Need-array-copy-out-d Inv-loop μ-loop
+array-copy-out-d c = omega arith
+
+reach-column-requires : tie.Need-reach-column-requires Inv-loop μ-loop
+reach-column-requires c κs = search needs
+
+add-i : tie.Need-add-i Inv-loop μ-loop
+add-i c = omega arith
+
+loop-less : tie.Need-loop-less Inv-loop μ-loop
+loop-less c = omega arith
+
+loop-again : tie.Need-loop-again Inv-loop μ-loop
+loop-again c =
+    let l = c .before .before .before .before .loop in
+    let a = c .before .before .before .before .before .args in
+    let h : c .reach-column .result ≡ turn (a .t1) (a .t2) (a .max-t) (l .most) (l .i) = cc in
+    (omega arith, fold-turn (turn (a .t1) (a .t2) (a .max-t)) (l .i) 4 (l .most) _ (omega arith) h ∙ l .inv .1)
+
+returns : tie.Need-returns Inv-loop μ-loop
+returns c = fold-done _ _ _ (c .before .loop .most) (omega arith) ∙ c .before .loop .inv .1
+
+pub max-entry-spec : {M : Type 1} → statement M
+max-entry-spec =
+    tie.close
+    (tie.spec
+    Inv-loop
+    μ-loop
+    loop-holds
+    mul-v
+    array-copy-out-v
+    mul-d
+    array-copy-out-d
+    reach-column-requires
+    add-i
+    loop-less
+    loop-again
+    returns)

@@ -1,0 +1,15 @@
+-- `motion::factors::usable` meets its contract. Assumes nothing.
+use borrow.Author.Needs.{needs}
+use Rattle.motion.specs.Factors.{usable}
+use Rattle.motion.proofs.factors.usable.Statement.{statement}
+use Rattle.motion.proofs.factors.usable.Tie as tie
+
+is-finite-requires : tie.Need-is-finite-requires
+is-finite-requires c κs = search needs
+
+returns : tie.Need-returns
+unfolding usable
+returns c = cc
+
+pub usable-spec : {M : Type 1} → statement M
+usable-spec = tie.close (tie.spec is-finite-requires returns)

@@ -1,0 +1,4 @@
+-- What the contracts of `motion` cite. Definitions only.
+pub mod Factors
+pub mod Scaling
+pub mod Coplanar
