@@ -63,9 +63,13 @@ fn made(root: &Path) -> PathBuf {
 
 fn main() {
     check_target();
-    let root = PathBuf::from(env::var_os("CARGO_MANIFEST_DIR").expect("Cargo sets it")).join("../..");
+    let root =
+        PathBuf::from(env::var_os("CARGO_MANIFEST_DIR").expect("Cargo sets it")).join("../..");
     let folder = named().unwrap_or_else(|| made(&root));
-    println!("cargo:rerun-if-changed={}", folder.join("liburtemval.a").display());
+    println!(
+        "cargo:rerun-if-changed={}",
+        folder.join("liburtemval.a").display()
+    );
     println!("cargo:rerun-if-changed=build.rs");
     println!("cargo:rustc-link-search=native={}", folder.display());
     println!("cargo:rustc-link-lib=static=urtemval");

@@ -188,7 +188,12 @@ impl PartialEq for Roots {
 /// # Ok::<(), Refusal>(())
 /// ```
 #[inline]
-pub fn safe_time(x0: &Points, dx: &Points, split: Split, limits: Limits) -> Result<SafeTime, Refusal> {
+pub fn safe_time(
+    x0: &Points,
+    dx: &Points,
+    split: Split,
+    limits: Limits,
+) -> Result<SafeTime, Refusal> {
     // SAFETY: references are neither null nor dangling, and `x0` and `dx` are only read.
     let told = unsafe { raw::urtemval_safe_time(x0, dx, split as usize, limits) };
     let answer = match told.kind {

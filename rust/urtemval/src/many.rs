@@ -55,7 +55,10 @@ pub fn safe_times(queries: &[Query]) -> Vec<Result<SafeTime, Refusal>> {
     let mut answers = vec![Err(Refusal::NotFinite); queries.len()];
     let shares = Mutex::new(queries.chunks(SHARE).zip(answers.chunks_mut(SHARE)));
     let work = || loop {
-        let share = shares.lock().expect("no thread panics while it takes a share").next();
+        let share = shares
+            .lock()
+            .expect("no thread panics while it takes a share")
+            .next();
         match share {
             Some((asked, answered)) => answer_all(asked, answered),
             None => break,
