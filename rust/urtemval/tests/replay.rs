@@ -227,17 +227,7 @@ fn main() {
     }
     assert!(want.is_empty(), "there are more answers than calls");
 
-    // many times over, so that every thread gets a share
-    let many: Vec<Query> = queries
-        .iter()
-        .copied()
-        .cycle()
-        .take(7 * queries.len())
-        .collect();
-    for (got, expected) in urtemval::safe_times(&many)
-        .into_iter()
-        .zip(times.iter().cycle())
-    {
+    for (got, expected) in urtemval::safe_times(&queries).into_iter().zip(&times) {
         assert_eq!(safe_words(got), *expected, "safe_times");
     }
     assert_eq!(urtemval::safe_times(&[]), []);
@@ -250,6 +240,6 @@ fn main() {
         "{}; {} calls, and {} safe times at once, all answered as in the frozen list",
         told.join(", "),
         counts.iter().sum::<usize>(),
-        many.len()
+        queries.len()
     );
 }
