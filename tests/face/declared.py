@@ -120,10 +120,8 @@ def layout():
             lines.append(f"field {name}.{field} at {at} size {SIZES[kind]}")
             at += SIZES[kind]
     answer = text("crates/urtemval/src/answer.rt")
-    for name, number in re.findall(r"Answer::(\w+)\(time\) => timed\((\d), time, s\)", answer):
+    for name, number in re.findall(r"Answer::(\w+)\(\w+\) => timed\(\w+, (\d), [\w.]+, s\)", answer):
         lines.append(f"kind {name.upper()} {number}")
-    refused = found(r"fn untimed.*? kind: (\d),", answer, "the kind of a refusal").group(1)
-    lines.append(f"kind REFUSED {refused}")
     return lines
 
 

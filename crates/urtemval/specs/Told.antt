@@ -22,19 +22,17 @@ given v = record { refusal = 0; value = v }
 abbrev pub refused : ℕ → Value
 refused n = record { refusal = n; value = zero32 }
 
--- a time of this kind, and a refusal, which is kind 4; with the counts that the walk made
-abbrev pub timed : ℕ → Float → Walked.SafeTime → SafeTime
-timed k t s = record { refusal = 0; kind = k; time = t; probes = s .probes; halvings = s .halvings }
+-- a refusal, 0 for none, a kind and a time, with the counts that the walk made
+abbrev pub timed : ℕ → ℕ → Float → Walked.SafeTime → SafeTime
+timed n k t s = record { refusal = n; kind = k; time = t; probes = s .probes; halvings = s .halvings }
 
-abbrev pub untimed : ℕ → Walked.SafeTime → SafeTime
-untimed n s = record { refusal = n; kind = 4; time = zero32; probes = s .probes; halvings = s .halvings }
-
+-- 0 touching, 1 contact, 2 clear, 3 budget, 4 refused
 abbrev pub byAnswer : Answer → Walked.SafeTime → SafeTime
-byAnswer (Touching t) s = timed 0 t s
-byAnswer (Contact t) s = timed 1 t s
-byAnswer (Clear t) s = timed 2 t s
-byAnswer (Budget t) s = timed 3 t s
-byAnswer (Refused n) s = untimed n s
+byAnswer (Touching t) s = timed 0 0 t s
+byAnswer (Contact t) s = timed 0 1 t s
+byAnswer (Clear t) s = timed 0 2 t s
+byAnswer (Budget t) s = timed 0 3 t s
+byAnswer (Refused n) s = timed n 4 zero32 s
 
 unfoldable pub safeTime : Walked.SafeTime → SafeTime
 safeTime s = byAnswer (s .answer) s

@@ -24,25 +24,13 @@ pub struct Value {
     pub value: f32,
 }
 
-fn timed(kind: u32, time: f32, s: ccd3::SafeTime) -> SafeTime
-    ensures { λ r. ⌜ r ≡ Def.timed kind time s ⌝ }
-{
-    SafeTime {
-        refusal: 0,
-        kind: kind,
-        time: time,
-        probes: s.probes,
-        halvings: s.halvings,
-    }
-}
-
-fn untimed(refusal: u32, s: ccd3::SafeTime) -> SafeTime
-    ensures { λ r. ⌜ r ≡ Def.untimed refusal s ⌝ }
+fn timed(refusal: u32, kind: u32, time: f32, s: ccd3::SafeTime) -> SafeTime
+    ensures { λ r. ⌜ r ≡ Def.timed refusal kind time s ⌝ }
 {
     SafeTime {
         refusal: refusal,
-        kind: 4,
-        time: 0.0,
+        kind: kind,
+        time: time,
         probes: s.probes,
         halvings: s.halvings,
     }
@@ -53,11 +41,11 @@ pub(crate) fn safe_time(s: ccd3::SafeTime) -> SafeTime
 {
     let answer = s.answer;
     match answer {
-        Answer::Touching(time) => timed(0, time, s),
-        Answer::Contact(time) => timed(1, time, s),
-        Answer::Clear(time) => timed(2, time, s),
-        Answer::Budget(time) => timed(3, time, s),
-        Answer::Refused(refusal) => untimed(refusal, s),
+        Answer::Touching(time) => timed(0, 0, time, s),
+        Answer::Contact(time) => timed(0, 1, time, s),
+        Answer::Clear(time) => timed(0, 2, time, s),
+        Answer::Budget(time) => timed(0, 3, time, s),
+        Answer::Refused(refusal) => timed(refusal, 4, 0.0, s),
     }
 }
 

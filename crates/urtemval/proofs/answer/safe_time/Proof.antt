@@ -22,7 +22,7 @@ returns-4 c = rw (c .before .before .answer4 .given .1) (c .timed4 .ensures)
 
 returns-5 : tie.Need-returns-5
 unfolding safeTime
-returns-5 c = rw (c .before .before .answer5 .given .1) (c .untimed .ensures)
+returns-5 c = rw (c .before .before .answer5 .given .1) (c .timed5 .ensures)
 
 pub safe-time-spec : {M : Type 1} → statement M
 safe-time-spec =
