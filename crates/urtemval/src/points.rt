@@ -1,0 +1,56 @@
+// Calls on lent points: the squared distance of a pair's two sides, the largest distance between points of the two
+// sides, and scaling (`pair::separation::squared_distance`, `pair::norm::max_relative_norm`,
+// `pair::scaling::normalize_centerized_configuration`).
+ghost use mathlib.Core.Path.{_≡_};
+ghost use Rattle.pair.specs.Separation.{measured};
+ghost use Rattle.pair.specs.Norm.{normed};
+ghost use Rattle.pair.specs.Scaling.{scalingOf, leaves};
+ghost use Rattle.urtemval.specs.Told as Told;
+ghost use Rattle.urtemval.specs.Lent.{pairOf};
+use crate::answer;
+use crate::answer::Value;
+use pair::norm;
+use pair::record;
+use pair::scaling;
+use pair::separation;
+use pair::separation::Measured;
+
+#[no_mangle]
+pub extern "C" fn urtemval_squared_distance(x: &[[f32; 3]; 4], split: usize) -> Measured
+    ensures { λ r. ⌜ r ≡ measured (now (x .entry)) split ⌝ }
+{
+    let points = *x;
+    separation::squared_distance(points, split)
+}
+
+#[no_mangle]
+pub extern "C" fn urtemval_max_relative_norm(x: &[[f32; 3]; 4], split: usize) -> Value
+    ensures { λ r. ⌜ r ≡ Told.norm (normed (now (x .entry)) split) ⌝ }
+{
+    let points = *x;
+    answer::norm(norm::max_relative_norm(points, split))
+}
+
+// The lent points and displacements hold the scaled ones afterwards. A refused call stores nothing, so that they stay as
+// they were, bit for bit.
+#[no_mangle]
+pub extern "C" fn urtemval_scale_pair(
+    x: &mut [[f32; 3]; 4],
+    dx: &mut [[f32; 3]; 4],
+    max_t: f32,
+) -> Value
+    ensures answer { λ r. ⌜ r ≡ Told.scaling (scalingOf (pairOf (now (x .entry)) (now (dx .entry))) «max_t») ⌝ }
+    ensures points { λ r. ⌜ now (x .exit) ≡ leaves (pairOf (now (x .entry)) (now (dx .entry))) «max_t» .x ⌝ }
+    ensures moves { λ r. ⌜ now (dx .exit) ≡ leaves (pairOf (now (x .entry)) (now (dx .entry))) «max_t» .dx ⌝ }
+{
+    let points = *x;
+    let moves = *dx;
+    let out = scaling::scaled_pair(record::pair_of(points, moves), max_t);
+    if out.taken {
+        let scaled = out.pair;
+        *x = record::x_of(scaled);
+        *dx = record::dx_of(scaled);
+    }
+    let told = out.answer;
+    answer::scaling(told)
+}

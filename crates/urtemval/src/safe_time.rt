@@ -1,0 +1,21 @@
+// The safe time of a lent pair (`ccd3::safe_time::maximum_safe_time_accurate`).
+ghost use mathlib.Core.Path.{_≡_};
+ghost use Rattle.ccd3.specs.SafeTime.{safeTimeOf};
+ghost use Rattle.urtemval.specs.Told as Told;
+use crate::answer;
+use crate::answer::SafeTime;
+use pair::record::Limits;
+
+#[no_mangle]
+pub extern "C" fn urtemval_safe_time(
+    x0: &[[f32; 3]; 4],
+    dx: &[[f32; 3]; 4],
+    split: usize,
+    limits: Limits,
+) -> SafeTime
+    ensures { λ r. ⌜ r ≡ Told.safeTime (safeTimeOf (now (x0 .entry)) (now (dx .entry)) split limits) ⌝ }
+{
+    let x = *x0;
+    let d = *dx;
+    answer::safe_time(ccd3::safe_time::maximum_safe_time_accurate(x, d, split, limits))
+}

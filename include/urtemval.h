@@ -1,0 +1,229 @@
+/*
+ * Urtemval: how far along a proposed move two pieces of cloth or skin may go.
+ *
+ * Four points, their displacements and a split make a pair. With split 2, points 0 and 1 are one edge and points 2 and 3
+ * the other; with split 3, points 0 to 2 are a face and point 3 is a vertex. docs/01-scope.md has the exact rules.
+ *
+ * Of every function here:
+ * - It answers whatever numbers it is given: what is not allowed is refused, by the first field of the answer.
+ * - A pointer must not be null, must point to a whole UrtemvalPoints, aligned as C aligns it, and what it points to must
+ *   not overlap what another argument of the same call points to.
+ * - It keeps no state, reads only its arguments, writes only its answer and what it is lent, allocates nothing, calls
+ *   nothing and always returns. It may be called from many threads at once.
+ * - It counts on the processor's usual setting for floats, with which every program starts: rounding to nearest, numbers
+ *   too small to be normal not flushed to zero (MXCSR: RC = 0, FTZ = 0, DAZ = 0), exceptions masked. A thread that has
+ *   changed it, as -ffast-math does at the start of a program, has to set it back before a call.
+ * - A NaN is a NaN: its sign and its other bits are not told apart.
+ *
+ * The archive liburtemval.a holds code for x86-64 Linux, needs no other library, and may be linked into executables and
+ * shared libraries, position-independent or not.
+ */
+#ifndef URTEMVAL_H
+#define URTEMVAL_H
+
+#include <float.h>
+#include <stddef.h>
+#include <stdint.h>
+
+#if !defined(__x86_64__) || !defined(__linux__)
+#error "urtemval: the archive liburtemval.a holds code for x86-64 Linux, and this compiler's target is another"
+#endif
+
+#ifdef __cplusplus
+#define URTEMVAL_NOEXCEPT noexcept
+extern "C" {
+#else
+#define URTEMVAL_NOEXCEPT
+#endif
+
+/* What a split may be. */
+enum {
+    URTEMVAL_EDGE_EDGE = 2,  /* points 0 and 1 against points 2 and 3 */
+    URTEMVAL_FACE_VERTEX = 3 /* points 0 to 2 against point 3 */
+};
+
+/* How a safe time ends: UrtemvalSafeTime.kind. */
+enum {
+    URTEMVAL_TOUCHING = 0, /* the pair touches already, and may not move: the time is 0 */
+    URTEMVAL_CONTACT = 1,  /* the pair may move to this time, and not to the next float */
+    URTEMVAL_CLEAR = 2,    /* nothing was met: the time is the time limit */
+    URTEMVAL_BUDGET = 3,   /* the pair may move to this time, at which the call stopped looking */
+    URTEMVAL_REFUSED = 4   /* no answer: the refusal says why */
+};
+
+/*
+ * Why a call is refused: the field `refusal` of an answer. 0 means that it is not. The lowest number that applies is
+ * answered, except that 6, 7 and 8 come as a root finder meets them.
+ */
+enum {
+    URTEMVAL_NOT_FINITE = 1,        /* some number handed over is NaN or an infinity */
+    URTEMVAL_OUT_OF_RANGE = 2,      /* some number lies beyond its range, or the split is neither 2 nor 3 */
+    URTEMVAL_TOO_CLOSE = 3,         /* safe time: the pair starts above the offset and below offset + clearance */
+    URTEMVAL_NO_FACTOR = 4,         /* scaling: no finite factor above 0 brings the largest entry to 0.99 */
+    URTEMVAL_SCALED_NOT_FINITE = 5, /* scaling: some scaled number would not be finite */
+    URTEMVAL_FLAT_SPAN = 6,         /* roots: the polynomial is zero at both ends of a span */
+    URTEMVAL_GUESS_OUTSIDE = 7,     /* roots: the first guess lies outside 0..t */
+    URTEMVAL_STUCK = 8,             /* roots: a Newton step meets value 0 and slope 0 */
+    URTEMVAL_NOT_QUADRATIC = 9      /* quadratic: c2 is zero */
+};
+
+/* Four points of three numbers each, or as many displacements. Numbers: finite, size at most 2^20. */
+typedef struct UrtemvalPoints {
+    float at[4][3];
+} UrtemvalPoints;
+
+/* What a safe time is asked with, beside the pair. */
+typedef struct UrtemvalLimits {
+    float offset;    /* how near the two sides count as touching: 0 to 2^20 */
+    float clearance; /* how much further apart they are to stay: 0 to 2^20 */
+    float max_t;     /* the time limit: 0 to 1, the end of the displacements */
+    float u_max;     /* no point of one side comes nearer to one of the other faster than this: 2^-60 to 2^60 */
+} UrtemvalLimits;
+
+/* A safe time. Where it is refused, kind is URTEMVAL_REFUSED and the other fields are zero. */
+typedef struct UrtemvalSafeTime {
+    uint32_t refusal;  /* 0, or the refusal's number: 1, 2 or 3 */
+    uint32_t kind;     /* one of the five kinds */
+    float time;        /* from 0 to the time limit; a zero has the sign plus */
+    uint32_t probes;   /* how many times were tried, at most 4096 */
+    uint32_t halvings; /* how often the last span was halved, at most 256 */
+} UrtemvalSafeTime;
+
+/* A squared distance. Where it is refused, the other fields are zero. */
+typedef struct UrtemvalDistance {
+    uint32_t refusal;   /* 0, or the refusal's number: 1 or 2 */
+    float squared;      /* the squared distance of the two sides */
+    float direction[3]; /* from the nearest place on the first side to the nearest on the second */
+    uint32_t candidate; /* which candidate gave both, from 0 (docs/01-scope.md, "Our distance rules") */
+} UrtemvalDistance;
+
+/* Roots, or times. Where they are refused, the other fields are zero. */
+typedef struct UrtemvalRoots {
+    uint32_t refusal; /* 0, or the refusal's number */
+    uint32_t count;   /* how many there are, at most 3 */
+    float roots[3];   /* the first `count` are the roots, the others are zero; a zero root has the sign plus */
+} UrtemvalRoots;
+
+/* One number. Where it is refused, the value is zero. */
+typedef struct UrtemvalValue {
+    uint32_t refusal; /* 0, or the refusal's number */
+    float value;
+} UrtemvalValue;
+
+/*
+ * How far along the move dx the pair at x0 may go.
+ *
+ * With d(t) the computed squared distance at time t, and park = offset + clearance, the kinds and their times are
+ * - touching, 0: d is at most offset^2 at the start, or exactly park^2;
+ * - contact, t: d(t) exceeds park^2, and at the next float after t, which is within the limit, d does not;
+ * - clear, max_t: d exceeds park^2 at the start and at every time that was tried;
+ * - budget, t: d(t) exceeds park^2, and 4096 times were tried.
+ * Nothing is said of times that were not tried (docs/GUARANTEES.md).
+ * The norm of the displacements, urtemval_max_relative_norm of dx, is a right u_max.
+ *
+ * Refusals: 1 some number is NaN or an infinity; 2 one lies beyond its range, or the split is neither 2 nor 3; 3 the pair
+ * starts with d above offset^2 and below park^2.
+ */
+UrtemvalSafeTime urtemval_safe_time(const UrtemvalPoints *x0, const UrtemvalPoints *dx, size_t split,
+                                    UrtemvalLimits limits) URTEMVAL_NOEXCEPT;
+
+/*
+ * The squared distance of the two sides of x, with its direction and its candidate.
+ *
+ * Refusals: 1 some number is NaN or an infinity; 2 one lies beyond its range, or the split is neither 2 nor 3.
+ */
+UrtemvalDistance urtemval_squared_distance(const UrtemvalPoints *x, size_t split) URTEMVAL_NOEXCEPT;
+
+/*
+ * The largest distance between a point before the split and a point from it on. Of displacements it is the greatest
+ * relative speed: u_max of a safe time, where it is not below 2^-60.
+ *
+ * Refusals: 1 some number is NaN or an infinity; 2 one lies beyond its range, or the split is neither 2 nor 3.
+ */
+UrtemvalValue urtemval_max_relative_norm(const UrtemvalPoints *x, size_t split) URTEMVAL_NOEXCEPT;
+
+/*
+ * Multiplies the lent points x and displacements dx so that the largest entry of x, and of x + max_t dx, is about 0.99,
+ * and answers the factor. A refused call leaves both as they were, bit for bit. max_t: 0 to 1.
+ *
+ * Refusals: 1 some number is NaN or an infinity; 2 one lies beyond its range; 4 there is no finite factor above 0 (all
+ * entries are zero, or too small); 5 some scaled number would not be finite.
+ */
+UrtemvalValue urtemval_scale_pair(UrtemvalPoints *x, UrtemvalPoints *dx, float max_t) URTEMVAL_NOEXCEPT;
+
+/*
+ * The times from 0 to 1 at which the four points x0 + t dx lie in one plane: at most three, in the order in which the
+ * root finder meets them.
+ *
+ * Refusals: 1 some number is NaN or an infinity; 2 one lies beyond its range, or a coefficient of the volume's cubic is
+ * above 2^20 in size; 6, 7, 8 as of urtemval_cubic_roots.
+ */
+UrtemvalRoots urtemval_coplanar_times(const UrtemvalPoints *x0, const UrtemvalPoints *dx) URTEMVAL_NOEXCEPT;
+
+/*
+ * The roots in 0..t of c0 + c1 x + c2 x^2 + c3 x^3: at most three, in the order of the spans between turning points. Of a
+ * linear polynomial it is the fraction of the way from 0 to t (at t = 1, the root). Coefficients: size at most 2^20. t:
+ * above 0, at most 1. epsilon, the size of a value at which a root is taken as found: 0 to 2^20.
+ *
+ * Refusals: 1 some number is NaN or an infinity; 2 one lies beyond its range; 6 the values at both ends of a span are
+ * zero; 7 the first guess lies outside 0..t; 8 a Newton step meets value 0 and slope 0.
+ */
+UrtemvalRoots urtemval_cubic_roots(float c0, float c1, float c2, float c3, float t, float epsilon) URTEMVAL_NOEXCEPT;
+
+/*
+ * The roots of c0 + c1 x + c2 x^2: none or two, the smaller first. A root may be infinite, where a division overflows.
+ * Coefficients: size at most 2^20.
+ *
+ * Refusals: 1 some number is NaN or an infinity; 2 one lies beyond its range; 9 c2 is zero.
+ */
+UrtemvalRoots urtemval_quadratic_roots(float c0, float c1, float c2) URTEMVAL_NOEXCEPT;
+
+/*
+ * The float nearest to the exact square root of x, ties to even; plus zero of either zero.
+ *
+ * Refusals: 1 x is NaN or an infinity; 2 x is below zero.
+ */
+UrtemvalValue urtemval_square_root(float x) URTEMVAL_NOEXCEPT;
+
+#ifdef __cplusplus
+}
+#endif
+
+/* The layout that the archive was built with. */
+#if defined(__cplusplus) && __cplusplus >= 201103L
+#define URTEMVAL_SURELY(fact) static_assert(fact, "urtemval: this compiler lays data out in another way: " #fact)
+#elif defined(__STDC_VERSION__) && __STDC_VERSION__ >= 201112L
+#define URTEMVAL_SURELY(fact) _Static_assert(fact, "urtemval: this compiler lays data out in another way: " #fact)
+#endif
+#ifdef URTEMVAL_SURELY
+URTEMVAL_SURELY(sizeof(size_t) == 8);
+URTEMVAL_SURELY(sizeof(float) == 4 && FLT_RADIX == 2 && FLT_MANT_DIG == 24 && FLT_MAX_EXP == 128);
+URTEMVAL_SURELY(sizeof(UrtemvalPoints) == 48);
+URTEMVAL_SURELY(offsetof(UrtemvalPoints, at) == 0);
+URTEMVAL_SURELY(sizeof(UrtemvalLimits) == 16);
+URTEMVAL_SURELY(offsetof(UrtemvalLimits, offset) == 0);
+URTEMVAL_SURELY(offsetof(UrtemvalLimits, clearance) == 4);
+URTEMVAL_SURELY(offsetof(UrtemvalLimits, max_t) == 8);
+URTEMVAL_SURELY(offsetof(UrtemvalLimits, u_max) == 12);
+URTEMVAL_SURELY(sizeof(UrtemvalSafeTime) == 20);
+URTEMVAL_SURELY(offsetof(UrtemvalSafeTime, refusal) == 0);
+URTEMVAL_SURELY(offsetof(UrtemvalSafeTime, kind) == 4);
+URTEMVAL_SURELY(offsetof(UrtemvalSafeTime, time) == 8);
+URTEMVAL_SURELY(offsetof(UrtemvalSafeTime, probes) == 12);
+URTEMVAL_SURELY(offsetof(UrtemvalSafeTime, halvings) == 16);
+URTEMVAL_SURELY(sizeof(UrtemvalDistance) == 24);
+URTEMVAL_SURELY(offsetof(UrtemvalDistance, refusal) == 0);
+URTEMVAL_SURELY(offsetof(UrtemvalDistance, squared) == 4);
+URTEMVAL_SURELY(offsetof(UrtemvalDistance, direction) == 8);
+URTEMVAL_SURELY(offsetof(UrtemvalDistance, candidate) == 20);
+URTEMVAL_SURELY(sizeof(UrtemvalRoots) == 20);
+URTEMVAL_SURELY(offsetof(UrtemvalRoots, refusal) == 0);
+URTEMVAL_SURELY(offsetof(UrtemvalRoots, count) == 4);
+URTEMVAL_SURELY(offsetof(UrtemvalRoots, roots) == 8);
+URTEMVAL_SURELY(sizeof(UrtemvalValue) == 8);
+URTEMVAL_SURELY(offsetof(UrtemvalValue, refusal) == 0);
+URTEMVAL_SURELY(offsetof(UrtemvalValue, value) == 4);
+#undef URTEMVAL_SURELY
+#endif
+
+#endif

@@ -1,0 +1,376 @@
+//! How far along a proposed move may two pieces of cloth or skin go?
+//!
+//! A drape solver proposes a move for every point of a mesh. For a face and a point, or for two edges, [`safe_time`]
+//! answers the time from 0 to 1 at which the move has to be cut, in single precision. This crate is a thin layer over a
+//! library that is proved, function by function, to answer what its rules say (docs/01-scope.md), for every input: what is
+//! not allowed is refused with a reason, every call ends, and no call panics.
+//!
+//! ```
+//! use urtemval::{max_relative_norm, safe_time, Answer, Limits, Split};
+//!
+//! // Two crossing edges, half a unit apart; the upper one falls by 1.
+//! let x0 = [[-1.0, 0.0, 0.0], [1.0, 0.0, 0.0], [0.0, -1.0, 0.5], [0.0, 1.0, 0.5]];
+//! let dx = [[0.0; 3], [0.0; 3], [0.0, 0.0, -1.0], [0.0, 0.0, -1.0]];
+//! let limits = Limits {
+//!     offset: 0.0,
+//!     clearance: 0.25,
+//!     max_t: 1.0,
+//!     u_max: max_relative_norm(&dx, Split::EdgeEdge)?,
+//! };
+//! match safe_time(&x0, &dx, Split::EdgeEdge, limits)?.answer {
+//!     Answer::Contact(t) => assert!(0.2499 < t && t < 0.25),
+//!     other => panic!("{other:?}"),
+//! }
+//! # Ok::<(), urtemval::Refusal>(())
+//! ```
+//!
+//! Everything here may be called from many threads at once, and [`safe_times`] asks for many pairs by as many threads as
+//! the machine runs.
+//!
+//! # Numbers allowed
+//!
+//! | What | Range, both ends in |
+//! |---|---|
+//! | coordinates, displacements, coefficients | finite, size at most 2^20 |
+//! | offset, clearance, epsilon | 0 to 2^20 |
+//! | `max_t` | 0 to 1 |
+//! | `t` of a cubic | above 0, at most 1 |
+//! | `u_max` | 2^-60 to 2^60 |
+//!
+//! Any other number is refused, by [`Refusal::NotFinite`] before [`Refusal::OutOfRange`].
+//!
+//! # The float setting
+//!
+//! The library counts on the processor's usual setting for floats, with which every thread starts and which Rust counts
+//! on too: rounding to nearest, and subnormal numbers not flushed to zero.
+//!
+//! # Linking
+//!
+//! The library is the archive `liburtemval.a`, code for x86-64 Linux that needs no other library. The build script has
+//! the project make it, or takes the one in the folder that the variable `URTEMVAL_LIB_DIR` names. For another target the
+//! build stops with an error that says so.
+
+#![deny(missing_docs)]
+
+mod many;
+pub mod raw;
+mod refusal;
+
+pub use many::{safe_times, Query};
+pub use refusal::Refusal;
+
+use refusal::unless_refused;
+use std::ops::Deref;
+
+/// Four points of three numbers each, or as many displacements.
+pub type Points = [[f32; 3]; 4];
+
+/// How four points make a pair: where its second side starts.
+#[derive(Clone, Copy, Debug, PartialEq, Eq, Hash)]
+#[repr(usize)]
+pub enum Split {
+    /// Points 0 and 1 are an edge, and points 2 and 3 the other.
+    EdgeEdge = 2,
+    /// Points 0 to 2 are a face, and point 3 is a vertex.
+    FaceVertex = 3,
+}
+
+/// What a safe time is asked with, beside the pair.
+#[derive(Clone, Copy, Debug, PartialEq)]
+#[repr(C)]
+pub struct Limits {
+    /// How near the two sides count as touching.
+    pub offset: f32,
+    /// How much further apart they are to stay.
+    pub clearance: f32,
+    /// The time limit, at most 1: the end of the displacements.
+    pub max_t: f32,
+    /// No point of one side comes nearer to one of the other faster than this. [`max_relative_norm`] of the displacements
+    /// is right.
+    pub u_max: f32,
+}
+
+/// How a safe time ends, with its time. Below, d(t) is the computed squared distance at time t, and park is
+/// offset + clearance.
+#[derive(Clone, Copy, Debug, PartialEq)]
+pub enum Answer {
+    /// The pair touches at the start, and may not move: d is at most offset² there, or exactly park².
+    Touching,
+    /// d exceeds park² at this time, and no longer at the next `f32`.
+    Contact(f32),
+    /// d exceeds park² at the start and at every time that was tried. The time is the time limit.
+    Clear(f32),
+    /// d exceeds park² at this time, and 4,096 times were tried.
+    Budget(f32),
+}
+
+impl Answer {
+    /// The time to which the pair may move.
+    #[inline]
+    pub fn time(self) -> f32 {
+        match self {
+            Answer::Touching => 0.0,
+            Answer::Contact(time) | Answer::Clear(time) | Answer::Budget(time) => time,
+        }
+    }
+}
+
+/// A safe time, and what it took to find it.
+#[derive(Clone, Copy, Debug, PartialEq)]
+pub struct SafeTime {
+    /// How it ends, with the time.
+    pub answer: Answer,
+    /// How many times were tried: at most 4,096.
+    pub probes: u32,
+    /// How often the last span was halved: at most 256.
+    pub halvings: u32,
+}
+
+impl SafeTime {
+    /// The time to which the pair may move.
+    #[inline]
+    pub fn time(self) -> f32 {
+        self.answer.time()
+    }
+}
+
+/// The distance of a pair's two sides.
+#[derive(Clone, Copy, Debug, PartialEq)]
+pub struct Distance {
+    /// The squared distance.
+    pub squared: f32,
+    /// From the nearest place on the first side to the nearest on the second.
+    pub direction: [f32; 3],
+    /// Which candidate gave both, from 0 (docs/01-scope.md, "Our distance rules").
+    pub candidate: u32,
+}
+
+/// At most three roots, as a slice of numbers.
+#[derive(Clone, Copy, Debug)]
+pub struct Roots {
+    count: usize,
+    places: [f32; 3],
+}
+
+impl Deref for Roots {
+    type Target = [f32];
+
+    #[inline]
+    fn deref(&self) -> &[f32] {
+        &self.places[..self.count]
+    }
+}
+
+impl PartialEq for Roots {
+    fn eq(&self, other: &Roots) -> bool {
+        self[..] == other[..]
+    }
+}
+
+/// How far along the move `dx` the pair at `x0` may go.
+///
+/// # Errors
+///
+/// [`Refusal::NotFinite`], [`Refusal::OutOfRange`], and [`Refusal::TooClose`] where the squared distance at the start is
+/// above offset² and below park².
+///
+/// ```
+/// use urtemval::{safe_time, Answer, Limits, Refusal, Split};
+///
+/// let x0 = [[0.0, 0.0, 0.0], [1.0, 0.0, 0.0], [0.0, 1.0, 0.0], [0.25, 0.25, 1.0]];
+/// let rising = [[0.0; 3], [0.0; 3], [0.0; 3], [0.0, 0.0, 1.0]];
+/// let limits = Limits { offset: 0.0, clearance: 0.5, max_t: 1.0, u_max: 1.0 };
+/// let safe = safe_time(&x0, &rising, Split::FaceVertex, limits)?;
+/// assert_eq!(safe.answer, Answer::Clear(1.0));
+///
+/// let wide = Limits { clearance: 2.0, ..limits };
+/// assert_eq!(safe_time(&x0, &rising, Split::FaceVertex, wide), Err(Refusal::TooClose));
+/// # Ok::<(), Refusal>(())
+/// ```
+#[inline]
+pub fn safe_time(
+    x0: &Points,
+    dx: &Points,
+    split: Split,
+    limits: Limits,
+) -> Result<SafeTime, Refusal> {
+    // SAFETY: references are neither null nor dangling, and `x0` and `dx` are only read.
+    let told = unsafe { raw::urtemval_safe_time(x0, dx, split as usize, limits) };
+    let answer = match told.kind {
+        raw::TOUCHING => Answer::Touching,
+        raw::CONTACT => Answer::Contact(told.time),
+        raw::CLEAR => Answer::Clear(told.time),
+        _ => Answer::Budget(told.time),
+    };
+    unless_refused(
+        told.refusal,
+        SafeTime {
+            answer,
+            probes: told.probes,
+            halvings: told.halvings,
+        },
+    )
+}
+
+/// The squared distance of the two sides of `x`, with its direction and its candidate.
+///
+/// # Errors
+///
+/// [`Refusal::NotFinite`] and [`Refusal::OutOfRange`].
+///
+/// ```
+/// use urtemval::{squared_distance, Split};
+///
+/// let x = [[0.0, 0.0, 0.0], [4.0, 0.0, 0.0], [0.0, 4.0, 0.0], [1.0, 1.0, 3.0]];
+/// let found = squared_distance(&x, Split::FaceVertex)?;
+/// assert_eq!(found.squared, 9.0);
+/// assert_eq!(found.direction, [0.0, 0.0, 3.0]);
+/// # Ok::<(), urtemval::Refusal>(())
+/// ```
+#[inline]
+pub fn squared_distance(x: &Points, split: Split) -> Result<Distance, Refusal> {
+    // SAFETY: as in `safe_time`.
+    let told = unsafe { raw::urtemval_squared_distance(x, split as usize) };
+    unless_refused(
+        told.refusal,
+        Distance {
+            squared: told.squared,
+            direction: told.direction,
+            candidate: told.candidate,
+        },
+    )
+}
+
+/// The largest distance between a point of the first side and a point of the second. Of displacements it is the greatest
+/// relative speed, right for `u_max`.
+///
+/// # Errors
+///
+/// [`Refusal::NotFinite`] and [`Refusal::OutOfRange`].
+///
+/// ```
+/// use urtemval::{max_relative_norm, Split};
+///
+/// let dx = [[0.0; 3], [0.0, 0.0, 0.0], [0.0, 3.0, 4.0], [0.0, 1.0, 0.0]];
+/// assert_eq!(max_relative_norm(&dx, Split::EdgeEdge), Ok(5.0));
+/// ```
+#[inline]
+pub fn max_relative_norm(x: &Points, split: Split) -> Result<f32, Refusal> {
+    // SAFETY: as in `safe_time`.
+    let told = unsafe { raw::urtemval_max_relative_norm(x, split as usize) };
+    unless_refused(told.refusal, told.value)
+}
+
+/// Multiplies points and displacements so that the largest entry of `x`, and of `x + max_t dx`, is about 0.99, and answers
+/// the factor. Where it is refused both stay as they were.
+///
+/// # Errors
+///
+/// [`Refusal::NotFinite`], [`Refusal::OutOfRange`], [`Refusal::NoFactor`] and [`Refusal::ScaledNotFinite`].
+///
+/// ```
+/// use urtemval::{scale_pair, Refusal};
+///
+/// let mut x = [[-2.0, 0.0, 0.0], [1.0, 0.0, 0.0], [0.0, 1.0, 0.0], [0.0, 0.0, 1.0]];
+/// let mut dx = [[0.0, 0.0, 1.0]; 4];
+/// assert_eq!(scale_pair(&mut x, &mut dx, 1.0), Ok(0.495));
+/// assert_eq!((x[0][0], dx[3][2]), (-0.99, 0.495));
+///
+/// let mut zeros = [[0.0; 3]; 4];
+/// assert_eq!(scale_pair(&mut zeros.clone(), &mut zeros, 1.0), Err(Refusal::NoFactor));
+/// ```
+#[inline]
+pub fn scale_pair(x: &mut Points, dx: &mut Points, max_t: f32) -> Result<f32, Refusal> {
+    // SAFETY: references are neither null nor dangling, and two `&mut` do not overlap.
+    let told = unsafe { raw::urtemval_scale_pair(x, dx, max_t) };
+    unless_refused(told.refusal, told.value)
+}
+
+/// The times from 0 to 1 at which the four points `x0 + t dx` lie in one plane, in the order in which the root finder
+/// meets them.
+///
+/// # Errors
+///
+/// [`Refusal::NotFinite`], [`Refusal::OutOfRange`], [`Refusal::FlatSpan`], [`Refusal::GuessOutside`] and
+/// [`Refusal::Stuck`].
+///
+/// ```
+/// use urtemval::coplanar_times;
+///
+/// let x0 = [[0.0, 0.0, 0.0], [1.0, 0.0, 0.0], [0.0, 1.0, 0.0], [0.25, 0.25, 1.0]];
+/// let dx = [[0.0; 3], [0.0; 3], [0.0; 3], [0.0, 0.0, -2.0]];
+/// assert_eq!(coplanar_times(&x0, &dx)?[..], [0.5]);
+/// # Ok::<(), urtemval::Refusal>(())
+/// ```
+#[inline]
+pub fn coplanar_times(x0: &Points, dx: &Points) -> Result<Roots, Refusal> {
+    // SAFETY: as in `safe_time`.
+    roots(unsafe { raw::urtemval_coplanar_times(x0, dx) })
+}
+
+/// The roots in 0..t of c\[0\] + c\[1\] x + c\[2\] x² + c\[3\] x³, in the order of the spans between turning points. Of a
+/// linear polynomial it is the fraction of the way from 0 to t (at t = 1, the root). `epsilon` is the size of a value at
+/// which a root is taken as found.
+///
+/// # Errors
+///
+/// [`Refusal::NotFinite`], [`Refusal::OutOfRange`], [`Refusal::FlatSpan`], [`Refusal::GuessOutside`] and
+/// [`Refusal::Stuck`].
+///
+/// ```
+/// // (x - 0.5) (x² + 1)
+/// let roots = urtemval::cubic_roots([-0.5, 1.0, -0.5, 1.0], 1.0, 0.0)?;
+/// assert_eq!(roots[..], [0.5]);
+/// # Ok::<(), urtemval::Refusal>(())
+/// ```
+#[inline]
+pub fn cubic_roots(c: [f32; 4], t: f32, epsilon: f32) -> Result<Roots, Refusal> {
+    // SAFETY: numbers by value.
+    roots(unsafe { raw::urtemval_cubic_roots(c[0], c[1], c[2], c[3], t, epsilon) })
+}
+
+/// The roots of c\[0\] + c\[1\] x + c\[2\] x²: none or two, the smaller first. A root may be infinite, where a division
+/// overflows.
+///
+/// # Errors
+///
+/// [`Refusal::NotFinite`], [`Refusal::OutOfRange`] and [`Refusal::NotQuadratic`].
+///
+/// ```
+/// assert_eq!(urtemval::quadratic_roots([2.0, -3.0, 1.0])?[..], [1.0, 2.0]);
+/// assert_eq!(urtemval::quadratic_roots([1.0, 0.0, 1.0])?.len(), 0);
+/// # Ok::<(), urtemval::Refusal>(())
+/// ```
+#[inline]
+pub fn quadratic_roots(c: [f32; 3]) -> Result<Roots, Refusal> {
+    // SAFETY: numbers by value.
+    roots(unsafe { raw::urtemval_quadratic_roots(c[0], c[1], c[2]) })
+}
+
+/// The `f32` nearest to the exact square root of `x`, ties to even; plus zero of either zero.
+///
+/// # Errors
+///
+/// [`Refusal::NotFinite`], and [`Refusal::OutOfRange`] below zero.
+///
+/// ```
+/// assert_eq!(urtemval::square_root(2.0), Ok(std::f32::consts::SQRT_2));
+/// assert_eq!(urtemval::square_root(-1.0), Err(urtemval::Refusal::OutOfRange));
+/// ```
+#[inline]
+pub fn square_root(x: f32) -> Result<f32, Refusal> {
+    // SAFETY: a number by value.
+    let told = unsafe { raw::urtemval_square_root(x) };
+    unless_refused(told.refusal, told.value)
+}
+
+#[inline]
+fn roots(told: raw::Roots) -> Result<Roots, Refusal> {
+    unless_refused(
+        told.refusal,
+        Roots {
+            count: told.count as usize,
+            places: told.roots,
+        },
+    )
+}

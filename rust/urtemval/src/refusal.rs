@@ -1,0 +1,93 @@
+//! Why a call is refused.
+
+use std::error::Error;
+use std::fmt;
+
+/// Why a call is refused. Each has the number that the rules (docs/01-scope.md, "Refusal numbers") give it.
+///
+/// The lowest number that applies is answered, except that 6, 7 and 8 come as a root finder meets them.
+#[derive(Clone, Copy, Debug, PartialEq, Eq, Hash, PartialOrd, Ord)]
+#[repr(u32)]
+pub enum Refusal {
+    /// Some number handed over is NaN or an infinity.
+    NotFinite = 1,
+    /// Some number lies beyond its range, or, of coplanar times, a coefficient of the volume's cubic does.
+    OutOfRange = 2,
+    /// Of a safe time: the pair starts above the offset and below offset + clearance.
+    TooClose = 3,
+    /// Of scaling: no finite factor above 0 brings the largest entry to 0.99.
+    NoFactor = 4,
+    /// Of scaling: some scaled number would not be finite.
+    ScaledNotFinite = 5,
+    /// Of roots: the polynomial is zero at both ends of a span.
+    FlatSpan = 6,
+    /// Of roots: the first guess lies outside 0..t.
+    GuessOutside = 7,
+    /// Of roots: a Newton step meets value 0 and slope 0.
+    Stuck = 8,
+    /// Of a quadratic: c2 is zero.
+    NotQuadratic = 9,
+}
+
+impl Refusal {
+    /// All of them, in the order of their numbers.
+    pub const ALL: [Refusal; 9] = [
+        Refusal::NotFinite,
+        Refusal::OutOfRange,
+        Refusal::TooClose,
+        Refusal::NoFactor,
+        Refusal::ScaledNotFinite,
+        Refusal::FlatSpan,
+        Refusal::GuessOutside,
+        Refusal::Stuck,
+        Refusal::NotQuadratic,
+    ];
+
+    /// The number of the refusal, from 1 on.
+    pub fn number(self) -> u32 {
+        self as u32
+    }
+
+    /// The refusal with this number.
+    pub fn from_number(number: u32) -> Option<Refusal> {
+        Refusal::ALL.into_iter().find(|r| r.number() == number)
+    }
+}
+
+impl fmt::Display for Refusal {
+    fn fmt(&self, f: &mut fmt::Formatter<'_>) -> fmt::Result {
+        let reason = match self {
+            Refusal::NotFinite => "a number is NaN or infinite",
+            Refusal::OutOfRange => "a number lies beyond its range",
+            Refusal::TooClose => "the pair starts above the offset and below offset + clearance",
+            Refusal::NoFactor => "there is no finite factor above 0 to scale by",
+            Refusal::ScaledNotFinite => "a scaled number would not be finite",
+            Refusal::FlatSpan => "the polynomial is zero at both ends of a span",
+            Refusal::GuessOutside => "the first guess of a root lies outside the range",
+            Refusal::Stuck => "a Newton step meets value 0 and slope 0",
+            Refusal::NotQuadratic => "c2 is zero, so this is no quadratic",
+        };
+        write!(f, "refusal {}: {reason}", self.number())
+    }
+}
+
+impl Error for Refusal {}
+
+/// What a call answers, by the refusal number of its record: 0 is none.
+#[inline]
+pub(crate) fn unless_refused<T>(number: u32, answer: T) -> Result<T, Refusal> {
+    if number == 0 {
+        Ok(answer)
+    } else {
+        Err(known(number))
+    }
+}
+
+/// The refusal of an answer of the archive.
+#[cold]
+fn known(number: u32) -> Refusal {
+    match Refusal::from_number(number) {
+        Some(refusal) => refusal,
+        None => panic!("liburtemval.a answers refusal {number}, which this crate does not know: they do not fit"),
+    }
+}

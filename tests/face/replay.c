@@ -1,0 +1,157 @@
+/*
+ * Replays the calls of the frozen list (docs/TESTING.md, "The stream") through the archive, and holds each answer to the
+ * one in the list, word by word. Fails where one differs, and where an exported function is not called at all.
+ *   replay CALLS ANSWERS
+ * It is compiled as C and as C++.
+ */
+#include <stdio.h>
+#include <stdlib.h>
+#include <string.h>
+#include <urtemval.h>
+
+enum { BLOCK = 65536, FUNCTIONS = 13 };
+
+/* By the function's number: how many words a call has after that number, and how many its answer has. */
+static const int call_words[FUNCTIONS] = {0, 1, 7, 25, 12, 13, 13, 13, 25, 3, 6, 24, 29};
+static const int answer_words[FUNCTIONS] = {0, 2, 4, 13, 13, 13, 6, 2, 26, 5, 5, 5, 5};
+static const char *const names[FUNCTIONS] = {
+    "", "square_root", "", "", "", "", "squared_distance", "max_relative_norm", "scale_pair", "quadratic_roots",
+    "cubic_roots", "coplanar_times", "safe_time"};
+
+static void fail(const char *message)
+{
+    fprintf(stderr, "replay: %s\n", message);
+    exit(1);
+}
+
+static float number(uint32_t word)
+{
+    float x;
+    memcpy(&x, &word, sizeof x);
+    return x;
+}
+
+static UrtemvalPoints points(const uint32_t *words)
+{
+    UrtemvalPoints x;
+    memcpy(&x, words, sizeof x);
+    return x;
+}
+
+/* Makes the call, if the function is exported, and says so. The answer's records have the order of the stream's words. */
+static int answer(uint32_t function, const uint32_t *in, uint32_t *out)
+{
+    UrtemvalPoints x, dx;
+    UrtemvalLimits limits;
+    UrtemvalValue value;
+    UrtemvalRoots roots;
+    UrtemvalDistance distance;
+    UrtemvalSafeTime safe;
+    switch (function) {
+    case 1:
+        value = urtemval_square_root(number(in[0]));
+        memcpy(out, &value, sizeof value);
+        return 1;
+    case 6:
+        x = points(in);
+        distance = urtemval_squared_distance(&x, in[12]);
+        memcpy(out, &distance, sizeof distance);
+        return 1;
+    case 7:
+        x = points(in);
+        value = urtemval_max_relative_norm(&x, in[12]);
+        memcpy(out, &value, sizeof value);
+        return 1;
+    case 8:
+        x = points(in);
+        dx = points(in + 12);
+        value = urtemval_scale_pair(&x, &dx, number(in[24]));
+        memcpy(out, &value, sizeof value);
+        memcpy(out + 2, &x, sizeof x);
+        memcpy(out + 14, &dx, sizeof dx);
+        return 1;
+    case 9:
+        roots = urtemval_quadratic_roots(number(in[0]), number(in[1]), number(in[2]));
+        memcpy(out, &roots, sizeof roots);
+        return 1;
+    case 10:
+        roots = urtemval_cubic_roots(number(in[0]), number(in[1]), number(in[2]), number(in[3]), number(in[4]),
+                                     number(in[5]));
+        memcpy(out, &roots, sizeof roots);
+        return 1;
+    case 11:
+        x = points(in);
+        dx = points(in + 12);
+        roots = urtemval_coplanar_times(&x, &dx);
+        memcpy(out, &roots, sizeof roots);
+        return 1;
+    case 12:
+        x = points(in);
+        dx = points(in + 12);
+        memcpy(&limits, in + 25, sizeof limits);
+        safe = urtemval_safe_time(&x, &dx, in[24], limits);
+        memcpy(out, &safe, sizeof safe);
+        return 1;
+    default:
+        return 0;
+    }
+}
+
+/* A call that is refused leaves what it was lent bit for bit: also NaNs that the stream does not tell apart. */
+static void refused_bits_stay(void)
+{
+    static const uint32_t odd[3] = {0x7fa12345u, 0xffc00001u, 0x80000000u};
+    UrtemvalPoints x, dx, was;
+    memset(&was, 0, sizeof was);
+    memcpy(&was, odd, sizeof odd);
+    memcpy(&x, &was, sizeof x);
+    memcpy(&dx, &was, sizeof dx);
+    if (urtemval_scale_pair(&x, &dx, 1).refusal != URTEMVAL_NOT_FINITE)
+        fail("a pair with a NaN is scaled");
+    if (memcmp(&x, &was, sizeof x) != 0 || memcmp(&dx, &was, sizeof dx) != 0)
+        fail("a refused scaling changed what it was lent");
+}
+
+int main(int count, char **words)
+{
+    static uint32_t block[BLOCK / 4];
+    uint32_t got[26], want[26];
+    long calls[FUNCTIONS] = {0};
+    long all = 0;
+    size_t size;
+    FILE *in = count == 3 ? fopen(words[1], "rb") : NULL;
+    FILE *frozen = count == 3 ? fopen(words[2], "rb") : NULL;
+    if (in == NULL || frozen == NULL)
+        fail("usage: replay CALLS ANSWERS");
+    while ((size = fread(block, 4, BLOCK / 4, in)) > 0) {
+        size_t at = 0;
+        while (at < size && block[at] != 0) {
+            uint32_t f = block[at];
+            if (f >= FUNCTIONS || at + 1 + (size_t)call_words[f] > size)
+                fail("the list of calls is damaged");
+            if (fread(want, 4, (size_t)answer_words[f], frozen) != (size_t)answer_words[f])
+                fail("the list of answers ends too early");
+            if (answer(f, block + at + 1, got)) {
+                if (memcmp(got, want, 4 * (size_t)answer_words[f]) != 0) {
+                    fprintf(stderr, "replay: call %ld, of urtemval_%s, is answered otherwise\n", calls[f], names[f]);
+                    return 1;
+                }
+                calls[f]++;
+                all++;
+            }
+            at += 1 + (size_t)call_words[f];
+        }
+    }
+    if (fgetc(frozen) != EOF)
+        fail("there are more answers than calls");
+    refused_bits_stay();
+    for (int f = 1; f < FUNCTIONS; f++) {
+        if (names[f][0] == 0)
+            continue;
+        if (calls[f] == 0)
+            fail("an exported function is not called");
+        printf("%s%s %ld", f == 1 ? "" : ", ", names[f], calls[f]);
+    }
+    printf("; %ld calls, all answered as in the frozen list\n", all);
+    return 0;
+}
