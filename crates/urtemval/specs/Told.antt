@@ -7,8 +7,8 @@ use Rattle.number.specs.declared.root.Rooted.{Rooted}
 use Rattle.number.specs.declared.root.Rooted.the-variants.{Root, Refused as RefusedRoot}
 use Rattle.pair.specs.declared.norm.Normed.{Normed}
 use Rattle.pair.specs.declared.norm.Normed.the-variants.{Norm, Refused as RefusedNorm}
-use Rattle.pair.specs.declared.scaling.Scaling.{Scaling}
-use Rattle.pair.specs.declared.scaling.Scaling.the-variants.{Factor, Refused as RefusedScaling}
+use Rattle.motion.specs.declared.scaling.Scaling.{Scaling}
+use Rattle.motion.specs.declared.scaling.Scaling.the-variants.{Factor, Refused as RefusedScaling}
 use Rattle.ccd3.specs.declared.SafeTime as Walked
 use Rattle.ccd3.specs.declared.Answer.{Answer}
 use Rattle.ccd3.specs.declared.Answer.the-variants.{Touching, Contact, Clear, Budget, Refused}

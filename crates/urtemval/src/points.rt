@@ -1,17 +1,17 @@
 // Calls on lent points: the squared distance of a pair's two sides, the largest distance between points of the two
 // sides, and scaling (`pair::separation::squared_distance`, `pair::norm::max_relative_norm`,
-// `pair::scaling::normalize_centerized_configuration`).
+// `motion::scaling::normalize_centerized_configuration`).
 ghost use mathlib.Core.Path.{_≡_};
 ghost use Rattle.pair.specs.Separation.{measured};
 ghost use Rattle.pair.specs.Norm.{normed};
-ghost use Rattle.pair.specs.Scaling.{scalingOf, leaves};
+ghost use Rattle.motion.specs.Scaling.{scalingOf, leaves};
 ghost use Rattle.urtemval.specs.Told as Told;
 ghost use Rattle.urtemval.specs.Lent.{pairOf};
 use crate::answer;
 use crate::answer::Value;
 use pair::norm;
-use pair::record;
-use pair::scaling;
+use motion::record;
+use motion::scaling;
 use pair::separation;
 use pair::separation::Measured;
 

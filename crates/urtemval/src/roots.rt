@@ -1,15 +1,15 @@
 // The square root, the two root finders, and the times at which a pair's four points lie in one plane
-// (`number::root::square_root`, `polynomial_root`, `pair::coplanar::coplanar_time_mat3x4`).
+// (`number::root::square_root`, `polynomial_root`, `motion::coplanar::coplanar_time_mat3x4`).
 ghost use mathlib.Core.Path.{_≡_};
 ghost use Rattle.number.specs.Root.{squareRoot};
 ghost use Rattle.polynomial_root.specs.Newton.{cubicOf};
 ghost use Rattle.polynomial_root.specs.Called.{quadraticRoot, cubicRootsInRange};
-ghost use Rattle.pair.specs.Coplanar.{coplanarTimes};
+ghost use Rattle.motion.specs.Coplanar.{coplanarTimes};
 ghost use Rattle.urtemval.specs.Told as Told;
 use crate::answer;
 use crate::answer::Value;
 use number::root;
-use pair::coplanar;
+use motion::coplanar;
 use polynomial_root::answer::Roots;
 
 #[no_mangle]

@@ -4,7 +4,7 @@ ghost use Rattle.ccd3.specs.SafeTime.{safeTimeOf};
 ghost use Rattle.urtemval.specs.Told as Told;
 use crate::answer;
 use crate::answer::SafeTime;
-use pair::record::Limits;
+use admission::Limits;
 
 #[no_mangle]
 pub extern "C" fn urtemval_safe_time(

@@ -7,9 +7,9 @@ use mathlib.Core.Logic.{⊎-elim}
 use lib.Dec.{eqb}
 use lib.Ieee.{Float}
 use borrow.Author.Needs.{needs}
-use Rattle.pair.specs.declared.record.Pair.{Pair}
-use Rattle.pair.specs.declared.scaling.Outcome.{Outcome}
-use Rattle.pair.specs.Scaling.{scalingRefusal, scalingOf, scaledPair, leaves, outcome}
+use Rattle.motion.specs.declared.record.Pair.{Pair}
+use Rattle.motion.specs.declared.scaling.Outcome.{Outcome}
+use Rattle.motion.specs.Scaling.{scalingRefusal, scalingOf, scaledPair, leaves, outcome}
 use Rattle.urtemval.specs.Lent.{pairOf}
 use Rattle.urtemval.specs.Told as Told
 use Rattle.urtemval.proofs.points.urtemval_scale_pair.Statement.{statement}
