@@ -21,8 +21,13 @@ unfolding firstSpan
 returns c =
     let e = c .before in
     let s = e .before in
-    rw (s .before .before .if1 .taken, c .span-root .ensures, s .before .start .ensures, e .end-at .ensures,
-    s .smaller .ensures)
+    rw (
+      s .before .before .if1 .taken,
+      c .span-root .ensures,
+      s .before .start .ensures,
+      e .end-at .ensures,
+      s .smaller .ensures,
+    )
 
 returns-2 : tie.Need-returns-2
 unfolding firstSpan

@@ -21,8 +21,13 @@ unfolding lastSpan
 returns c =
     let e = c .before in
     let d = e .before in
-    rw (d .before .before .if1 .taken, c .span-root .ensures, d .end-at .ensures, d .before .larger .ensures,
-    e .end-at2 .ensures)
+    rw (
+      d .before .before .if1 .taken,
+      c .span-root .ensures,
+      d .end-at .ensures,
+      d .before .larger .ensures,
+      e .end-at2 .ensures,
+    )
 
 returns-2 : tie.Need-returns-2
 unfolding lastSpan

@@ -39,8 +39,14 @@ returns-2 c =
     let v = c .before in
     let e = v .before in
     let d = e .before .before in
-    rw (← d .before .vanishes .ensures, d .if1 .taken, ← e .before .vanishes2 .ensures, e .if2 .left,
-    c .linear-roots .ensures, v .value-at .ensures)
+    rw (
+      ← d .before .vanishes .ensures,
+      d .if1 .taken,
+      ← e .before .vanishes2 .ensures,
+      e .if2 .left,
+      c .linear-roots .ensures,
+      v .value-at .ensures,
+    )
 
 returns-3 : tie.Need-returns-3
 unfolding lowerRoots
