@@ -21,7 +21,14 @@ verdict-requires c κs = search needs
 
 returns : tie.Need-returns
 unfolding factorRefusal
-returns c = cc
+returns c =
+    rw (
+      c .verdict .ensures,
+      c .before .zero-to-limit .ensures,
+      c .before .before .points-in-limit .ensures,
+      c .before .before .before .is-finite .ensures,
+      c .before .before .before .before .points-finite .ensures,
+    )
 
 pub admit-factor-spec : {M : Type 1} → statement M
 admit-factor-spec =

@@ -6,7 +6,14 @@ use Rattle.admission.proofs.admit_motion.Tie as tie
 
 returns : tie.Need-returns
 unfolding motionRefusal
-returns c = cc
+returns c =
+    rw (
+      c .verdict .ensures,
+      c .before .points-in-limit2 .ensures,
+      c .before .before .points-in-limit .ensures,
+      c .before .before .before .points-finite2 .ensures,
+      c .before .before .before .before .points-finite .ensures,
+    )
 
 pub admit-motion-spec : {M : Type 1} → statement M
 admit-motion-spec =

@@ -15,7 +15,7 @@ verdict-requires c κs = search needs
 
 returns : tie.Need-returns
 unfolding pointsRefusal
-returns c = cc
+returns c = rw (c .verdict .ensures, c .before .points-in-limit .ensures, c .before .before .points-finite .ensures)
 
 pub admit-points-spec : {M : Type 1} → statement M
 admit-points-spec =

@@ -27,7 +27,16 @@ verdict-requires c κs = search needs
 
 returns : tie.Need-returns
 unfolding ratioRefusal
-returns c = cc
+returns c =
+    rw (
+      c .verdict .ensures,
+      c .before .zero-to-one .ensures,
+      c .before .before .three-in-limit2 .ensures,
+      c .before .before .before .three-in-limit .ensures,
+      c .before .before .before .before .is-finite .ensures,
+      c .before .before .before .before .before .three-finite2 .ensures,
+      c .before .before .before .before .before .before .three-finite .ensures,
+    )
 
 pub admit-ratio-spec : {M : Type 1} → statement M
 admit-ratio-spec =

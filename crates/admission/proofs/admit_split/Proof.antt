@@ -18,7 +18,13 @@ verdict-requires c κs = search needs
 
 returns : tie.Need-returns
 unfolding splitRefusal
-returns c = cc
+returns c =
+    rw (
+      c .verdict .ensures,
+      c .before .is-split .ensures,
+      c .before .before .points-in-limit .ensures,
+      c .before .before .before .points-finite .ensures,
+    )
 
 pub admit-split-spec : {M : Type 1} → statement M
 admit-split-spec =

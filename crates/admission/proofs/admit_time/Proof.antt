@@ -27,7 +27,16 @@ verdict-requires c κs = search needs
 
 returns : tie.Need-returns
 unfolding timeRefusal
-returns c = cc
+returns c =
+    rw (
+      c .verdict .ensures,
+      c .before .zero-to-one .ensures,
+      c .before .before .points-in-limit2 .ensures,
+      c .before .before .before .points-in-limit .ensures,
+      c .before .before .before .before .is-finite .ensures,
+      c .before .before .before .before .before .points-finite2 .ensures,
+      c .before .before .before .before .before .before .points-finite .ensures,
+    )
 
 pub admit-time-spec : {M : Type 1} → statement M
 admit-time-spec =

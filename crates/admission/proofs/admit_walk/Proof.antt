@@ -1,12 +1,22 @@
 -- `admission::admit_walk` meets its contract: what lies in its range is admitted, and of what does not the finite
 -- numbers decide. Assumes nothing.
+use Prim.Native.Nat.{ℕ}
 use mathlib.Core.Path.{_≡_, _∙_}
-use mathlib.Core.Bool.{true, false}
+use mathlib.Core.Bool.{Bool, _&&_}
+use mathlib.Core.List.{List}
+use lib.Ieee.{Float}
 use borrow.Author.Needs.{needs}
-use Rattle.admission.specs.Admission.{refusal, finiteWalk, rangedWalk}
+use Rattle.admission.specs.declared.Limits.{Limits}
+use Rattle.admission.specs.Admission.{limitPoints, isSplit, rangedLimits, rangedWalk}
 use Rattle.admission.proofs.Admitted.{walk-none, walk-beyond}
 use Rattle.admission.proofs.admit_walk.Statement.{statement}
 use Rattle.admission.proofs.admit_walk.Tie as tie
+
+-- the tests of the ranges, by what the calls answer
+ranged-by : (x dx : List (List Float)) (split : ℕ) (l : Limits) (v a b r s : Bool) → a ≡ limitPoints x
+    → b ≡ limitPoints dx → r ≡ rangedLimits l → s ≡ isSplit split → (a && b && r && s) ≡ v
+    → rangedWalk x dx split l ≡ v
+ranged-by x dx split l v a b r s ea eb er es e = rw (← ea, ← eb, ← er, ← es) e
 
 points-in-limit-requires : tie.Need-points-in-limit-requires
 points-in-limit-requires c κs = search needs
@@ -22,9 +32,12 @@ is-split-requires c κs = search needs
 
 returns : tie.Need-returns
 returns c =
-    let a = c .before .before .before .before .before .args in
-    let h : rangedWalk (a .x0) (a .dx) (a .split) (a .limits) ≡ true = cc in
-    walk-none (a .x0) (a .dx) (a .split) (a .limits) h
+    let l = c .before .before in
+    let p = l .before .before in
+    let a = p .before .args in
+    walk-none (a .x0) (a .dx) (a .split) (a .limits)
+    (ranged-by (a .x0) (a .dx) (a .split) (a .limits) _ _ _ _ _ (p .points-in-limit .ensures)
+    (l .before .points-in-limit2 .ensures) (l .limits-ranged .ensures) (c .before .is-split .ensures) (c .if1 .taken))
 
 points-finite-requires : tie.Need-points-finite-requires
 points-finite-requires c κs = search needs
@@ -40,10 +53,17 @@ verdict-requires c κs = search needs
 
 returns-2 : tie.Need-returns-2
 returns-2 c =
-    let a = c .before .before .before .before .before .before .before .before .before .args in
-    let h : rangedWalk (a .x0) (a .dx) (a .split) (a .limits) ≡ false = cc in
-    let f : c .verdict .result ≡ refusal (finiteWalk (a .x0) (a .dx) (a .limits)) false = cc in
-    f ∙ walk-beyond (a .x0) (a .dx) (a .split) (a .limits) h
+    let f = c .before in
+    let g = f .before .before in
+    let e = g .before in
+    let l = e .before .before in
+    let p = l .before .before in
+    let a = p .before .args in
+    c .verdict .ensures
+    ∙ rw (f .limits-finite .ensures, f .before .points-finite2 .ensures, g .points-finite .ensures)
+    (walk-beyond (a .x0) (a .dx) (a .split) (a .limits)
+    (ranged-by (a .x0) (a .dx) (a .split) (a .limits) _ _ _ _ _ (p .points-in-limit .ensures)
+    (l .before .points-in-limit2 .ensures) (l .limits-ranged .ensures) (e .before .is-split .ensures) (e .if1 .left)))
 
 pub admit-walk-spec : {M : Type 1} → statement M
 admit-walk-spec =

@@ -18,7 +18,13 @@ speed-range-requires c κs = search needs
 
 returns : tie.Need-returns
 unfolding rangedLimits
-returns c = cc
+returns c =
+    rw (
+      c .speed-range .ensures,
+      c .before .zero-to-one .ensures,
+      c .before .before .zero-to-limit2 .ensures,
+      c .before .before .before .zero-to-limit .ensures,
+    )
 
 pub limits-ranged-spec : {M : Type 1} → statement M
 limits-ranged-spec =

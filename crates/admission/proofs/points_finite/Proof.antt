@@ -30,7 +30,13 @@ three-finite-requires-4 c κs = search needs
 
 returns : tie.Need-returns
 unfolding finitePoints
-returns c = cc
+returns c =
+    rw (
+      c .three-finite4 .ensures,
+      c .before .three-finite3 .ensures,
+      c .before .before .three-finite2 .ensures,
+      c .before .before .before .three-finite .ensures,
+    )
 
 pub points-finite-spec : {M : Type 1} → statement M
 points-finite-spec =

@@ -30,7 +30,13 @@ three-in-limit-requires-4 c κs = search needs
 
 returns : tie.Need-returns
 unfolding limitPoints
-returns c = cc
+returns c =
+    rw (
+      c .three-in-limit4 .ensures,
+      c .before .three-in-limit3 .ensures,
+      c .before .before .three-in-limit2 .ensures,
+      c .before .before .before .three-in-limit .ensures,
+    )
 
 pub points-in-limit-spec : {M : Type 1} → statement M
 points-in-limit-spec =

@@ -85,8 +85,9 @@ returns-4 c =
       sym (f .before .finite-quadratic .ensures) ∙ not-false _ (f .if1 .left),
       sym (a .before .allowed-quadratic .ensures) ∙ not-false _ (a .if2 .left),
       c .before .before .if3 .left,
-    )
-    (cc))
+      c .all-roots .ensures,
+      c .before .solve .ensures,
+    ))
 
 pub quadratic-root-spec : {M : Type 1} → statement M
 quadratic-root-spec =

@@ -8,10 +8,12 @@ use Rattle.motion.proofs.coplanar.motion_cubic.Tie as tie
 returns : tie.Need-returns
 unfolding motionCubic
 returns c =
+    let e = c .before .before .before in
+    let b = e .before .before .before in
     c .volume .ensures
     ∙ (λ i.
-    volume (c .before .before .before .before .before .before .sub .ensures i) (c .before .before .before .before .before .sub2 .ensures i) (c .before .before .before .before .sub3 .ensures i)
-    (c .before .before .before .sub4 .ensures i) (c .before .before .sub5 .ensures i) (c .before .sub6 .ensures i))
+    volume (b .sub .ensures i) (e .before .before .sub2 .ensures i) (e .before .sub3 .ensures i) (e .sub4 .ensures i)
+    (c .before .before .sub5 .ensures i) (c .before .sub6 .ensures i))
 
 pub motion-cubic-spec : {M : Type 1} → statement M
 motion-cubic-spec =

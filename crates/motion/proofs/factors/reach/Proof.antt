@@ -18,7 +18,13 @@ larger-requires-2 c κs = search needs
 
 returns : tie.Need-returns
 unfolding reach
-returns c = cc
+returns c =
+    rw (
+      c .larger2 .ensures,
+      c .before .size2 .ensures,
+      c .before .before .larger .ensures,
+      c .before .before .before .size .ensures,
+    )
 
 pub reach-spec : {M : Type 1} → statement M
 reach-spec =

@@ -31,7 +31,7 @@ reach-requires-3 : tie.Need-reach-requires-3
 reach-requires-3 c κs = search needs
 
 returns : tie.Need-returns
-returns c = cc
+returns c = rw (c .reach3 .ensures, c .before .reach2 .ensures, c .before .before .reach .ensures)
 
 pub reach-column-spec : {M : Type 1} → statement M
 reach-column-spec =

@@ -13,7 +13,7 @@ admit-time-requires : tie.Need-admit-time-requires
 admit-time-requires c κs = search needs
 
 returns : tie.Need-returns
-returns c = cc
+returns c = rw (c .admit-time .ensures, c .before .dx-of .ensures, c .before .before .x-of .ensures)
 
 pub admit-pair-spec : {M : Type 1} → statement M
 admit-pair-spec = tie.close (tie.spec x-of-requires dx-of-requires admit-time-requires returns)

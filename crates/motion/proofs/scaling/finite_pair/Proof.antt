@@ -18,7 +18,13 @@ points-finite-requires-2 c κs = search needs
 
 returns : tie.Need-returns
 unfolding finitePair
-returns c = cc
+returns c =
+    rw (
+      c .points-finite2 .ensures,
+      c .before .points-finite .ensures,
+      c .before .before .dx-of .ensures,
+      c .before .before .before .x-of .ensures,
+    )
 
 pub finite-pair-spec : {M : Type 1} → statement M
 finite-pair-spec =

@@ -15,7 +15,7 @@ max-entry-requires c κs = search needs
 
 returns : tie.Need-returns
 unfolding firstFactor
-returns c = cc
+returns c = rw (c .max-entry .ensures, c .before .dx-of .ensures, c .before .before .x-of .ensures)
 
 pub first-factor-spec : {M : Type 1} → statement M
 first-factor-spec = tie.close (tie.spec x-of-requires dx-of-requires max-entry-requires returns)

@@ -12,7 +12,7 @@ root-requires c κs = search needs
 
 returns : tie.Need-returns
 unfolding normOf
-returns c = cc
+returns c = rw (c .root .ensures, c .before .largest-square .ensures)
 
 pub norm-spec : {M : Type 1} → statement M
 norm-spec = tie.close (tie.spec largest-square-requires root-requires returns)

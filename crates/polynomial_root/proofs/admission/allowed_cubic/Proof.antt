@@ -16,7 +16,13 @@ zero-to-limit-requires : tie.Need-zero-to-limit-requires
 zero-to-limit-requires c κs = search needs
 
 returns : tie.Need-returns
-returns c = cc
+returns c =
+    rw (
+      c .zero-to-limit .ensures,
+      c .before .above-zero-to-one .ensures,
+      c .before .before .in-limit .ensures,
+      c .before .before .before .allowed-quadratic .ensures,
+    )
 
 pub allowed-cubic-spec : {M : Type 1} → statement M
 allowed-cubic-spec =

@@ -13,7 +13,7 @@ in-limit-requires-3 : tie.Need-in-limit-requires-3
 in-limit-requires-3 c κs = search needs
 
 returns : tie.Need-returns
-returns c = cc
+returns c = rw (c .in-limit3 .ensures, c .before .in-limit2 .ensures, c .before .before .in-limit .ensures)
 
 pub allowed-quadratic-spec : {M : Type 1} → statement M
 allowed-quadratic-spec =

@@ -16,7 +16,13 @@ is-finite-requires-3 : tie.Need-is-finite-requires-3
 is-finite-requires-3 c κs = search needs
 
 returns : tie.Need-returns
-returns c = cc
+returns c =
+    rw (
+      c .is-finite3 .ensures,
+      c .before .is-finite2 .ensures,
+      c .before .before .is-finite .ensures,
+      c .before .before .before .finite-quadratic .ensures,
+    )
 
 pub finite-cubic-spec : {M : Type 1} → statement M
 finite-cubic-spec =

@@ -13,7 +13,7 @@ is-finite-requires-3 : tie.Need-is-finite-requires-3
 is-finite-requires-3 c κs = search needs
 
 returns : tie.Need-returns
-returns c = cc
+returns c = rw (c .is-finite3 .ensures, c .before .is-finite2 .ensures, c .before .before .is-finite .ensures)
 
 pub finite-quadratic-spec : {M : Type 1} → statement M
 finite-quadratic-spec =

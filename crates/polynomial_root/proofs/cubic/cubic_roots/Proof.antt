@@ -24,8 +24,9 @@ returns c = rw (← c .before .before .vanishes .ensures, c .before .if1 .taken)
 returns-2 : tie.Need-returns-2
 unfolding cubicRoots
 returns-2 c =
-    let d = c .before .before .before .before in
-    rw (← d .before .vanishes .ensures, d .if1 .left) (cc)
+    let s = c .before in
+    let d = s .before .before .before in
+    rw (← d .before .vanishes .ensures, d .if1 .left, c .span-roots .ensures, s .solve .ensures)
 
 pub cubic-roots-spec : {M : Type 1} → statement M
 cubic-roots-spec =

@@ -18,7 +18,16 @@ span-root-requires c κs = search needs
 
 returns : tie.Need-returns
 unfolding firstSpan
-returns c = rw (c .before .before .before .before .if1 .taken) (cc)
+returns c =
+    let e = c .before in
+    let s = e .before in
+    rw (
+      s .before .before .if1 .taken,
+      c .span-root .ensures,
+      s .before .start .ensures,
+      e .end-at .ensures,
+      s .smaller .ensures,
+    )
 
 returns-2 : tie.Need-returns-2
 unfolding firstSpan

@@ -18,7 +18,16 @@ span-root-requires c κs = search needs
 
 returns : tie.Need-returns
 unfolding lastSpan
-returns c = rw (c .before .before .before .before .if1 .taken) (cc)
+returns c =
+    let e = c .before in
+    let d = e .before in
+    rw (
+      d .before .before .if1 .taken,
+      c .span-root .ensures,
+      d .end-at .ensures,
+      d .before .larger .ensures,
+      e .end-at2 .ensures,
+    )
 
 returns-2 : tie.Need-returns-2
 unfolding lastSpan

@@ -48,11 +48,37 @@ after-requires-4 c κs = search needs
 
 returns : tie.Need-returns
 unfolding spanRoots
-returns c = rw (c .before .before .before .before .before .enum-told .given .1) (cc)
+returns c =
+    let s = c .before in
+    let e = s .before in
+    let z = e .before in
+    rw (
+      z .before .before .enum-told .given .1,
+      c .after .ensures,
+      z .before .refused .ensures,
+      s .span-root .ensures,
+      z .start .ensures,
+      e .end-at .ensures,
+    )
 
 returns-2 : tie.Need-returns-2
 unfolding spanRoots
-returns-2 c = rw (c .before .before .before .before .before .before .before .before .s .given .1) (cc)
+returns-2 c =
+    let l = c .before in
+    let m = l .before in
+    let n = m .before in
+    let a = n .before in
+    let f = a .before in
+    rw (
+      f .before .before .before .s .given .1,
+      c .after4 .ensures,
+      m .after3 .ensures,
+      a .after2 .ensures,
+      f .before .refused2 .ensures,
+      f .first-span .ensures,
+      n .middle-span .ensures,
+      l .last-span .ensures,
+    )
 
 pub span-roots-spec : {M : Type 1} → statement M
 span-roots-spec =

@@ -18,11 +18,13 @@ refused-requires-2 c κs = search needs
 
 returns : tie.Need-returns
 unfolding constantRoots
-returns c = rw (← c .before .before .before .vanishes .ensures, c .before .before .if1 .taken) (cc)
+returns c =
+    let z = c .before in
+    rw (← z .before .before .vanishes .ensures, z .before .if1 .taken, c .push .ensures, z .refused .ensures)
 
 returns-2 : tie.Need-returns-2
 unfolding constantRoots
-returns-2 c = rw (← c .before .before .vanishes .ensures, c .before .if1 .left) (cc)
+returns-2 c = rw (← c .before .before .vanishes .ensures, c .before .if1 .left) (c .refused2 .ensures)
 
 pub constant-roots-spec : {M : Type 1} → statement M
 constant-roots-spec =

@@ -28,7 +28,10 @@ returns c = rw (c .before .enum-told .given .1) (c .refused .ensures)
 
 returns-2 : tie.Need-returns-2
 unfolding keptRoots
-returns-2 c = rw (c .before .before .before .before .s .given .1) (cc)
+returns-2 c =
+    let k = c .before in
+    let z = k .before in
+    rw (z .before .before .s .given .1, c .keep2 .ensures, k .keep .ensures, z .refused2 .ensures)
 
 pub kept-roots-spec : {M : Type 1} → statement M
 kept-roots-spec =

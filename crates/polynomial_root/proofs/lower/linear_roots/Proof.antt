@@ -22,7 +22,9 @@ returns c = rw (c .before .before .if1 .taken, c .before .if2 .taken) (c .refuse
 
 returns-2 : tie.Need-returns-2
 unfolding linearRoots
-returns-2 c = rw (c .before .before .before .if1 .taken, c .before .before .if2 .left) (cc)
+returns-2 c =
+    let z = c .before in
+    rw (z .before .before .if1 .taken, z .before .if2 .left, c .push .ensures, z .refused2 .ensures)
 
 returns-3 : tie.Need-returns-3
 unfolding linearRoots

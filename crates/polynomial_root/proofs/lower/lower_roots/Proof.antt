@@ -36,13 +36,23 @@ returns c =
 returns-2 : tie.Need-returns-2
 unfolding lowerRoots
 returns-2 c =
-    let d = c .before .before .before .before in
-    let e = c .before .before in
-    rw (← d .before .vanishes .ensures, d .if1 .taken, ← e .before .vanishes2 .ensures, e .if2 .left) (cc)
+    let v = c .before in
+    let e = v .before in
+    let d = e .before .before in
+    rw (
+      ← d .before .vanishes .ensures,
+      d .if1 .taken,
+      ← e .before .vanishes2 .ensures,
+      e .if2 .left,
+      c .linear-roots .ensures,
+      v .value-at .ensures,
+    )
 
 returns-3 : tie.Need-returns-3
 unfolding lowerRoots
-returns-3 c = rw (← c .before .before .before .vanishes .ensures, c .before .before .if1 .left) (cc)
+returns-3 c =
+    let s = c .before in
+    rw (← s .before .before .vanishes .ensures, s .before .if1 .left, c .kept-roots .ensures, s .solve .ensures)
 
 pub lower-roots-spec : {M : Type 1} → statement M
 lower-roots-spec =

@@ -7,7 +7,7 @@ size-requires : tie.Need-size-requires
 size-requires c κs = search needs
 
 returns : tie.Need-returns
-returns c = cc
+returns c = rw (c .size .ensures)
 
 pub vanishes-spec : {M : Type 1} → statement M
 vanishes-spec = tie.close (tie.spec size-requires returns)

@@ -63,8 +63,8 @@ loop-again c =
     let a = s .before .args in (
       omega arith,
       goes-on (a .p) (a .t) (a .epsilon) (a .guess) (s .loop .r) (s .loop .i) (s .loop .inv .1)
-      (v .before .loop-test .taken) _ (v .value-at .ensures) _ (e .before .size .ensures) (e .if1 .left)
-      _ (d .slope-at .ensures) (c .before .if2 .left) _ (c .clamp .ensures),
+          (v .before .loop-test .taken) _ (v .value-at .ensures) _ (e .before .size .ensures) (e .if1 .left)
+          _ (d .slope-at .ensures) (c .before .if2 .left) _ (c .clamp .ensures),
     )
 
 returns-3 : tie.Need-returns-3 Inv-loop μ-loop

@@ -10,7 +10,7 @@ root-requires : tie.Need-root-requires
 root-requires c κs = search needs
 
 returns : tie.Need-returns
-returns c = cc
+returns c = rw (c .root .ensures, c .before .sign-of .ensures)
 
 pub stable-spec : {M : Type 1} → statement M
 stable-spec = tie.close (tie.spec sign-of-requires root-requires returns)
