@@ -1,18 +1,19 @@
 /*
  * Urtemval: how far along a proposed move two pieces of cloth or skin may go.
  *
- * Four points, their displacements and a split make a pair. With split 2, points 0 and 1 are one edge and points 2 and 3
- * the other; with split 3, points 0 to 2 are a face and point 3 is a vertex. docs/01-scope.md has the exact rules.
+ * Four points, their displacements and a split make a pair. With split 2, points 0 and 1 are one edge and points 2
+ * and 3 the other; with split 3, points 0 to 2 are a face and point 3 is a vertex. docs/01-scope.md has the exact
+ * rules.
  *
  * Of every function here:
  * - It answers whatever numbers it is given: what is not allowed is refused, by the first field of the answer.
- * - A pointer must not be null, must point to a whole UrtemvalPoints, aligned as C aligns it, and what it points to must
- *   not overlap what another argument of the same call points to.
+ * - A pointer must not be null, must point to a whole UrtemvalPoints, aligned as C aligns it, and what it points to
+ *   must not overlap what another argument of the same call points to.
  * - It keeps no state, reads only its arguments, writes only its answer and what it is lent, allocates nothing, calls
  *   nothing and always returns. It may be called from many threads at once.
- * - It counts on the processor's usual setting for floats, with which every program starts: rounding to nearest, numbers
- *   too small to be normal not flushed to zero (MXCSR: RC = 0, FTZ = 0, DAZ = 0), exceptions masked. A thread that has
- *   changed it, as -ffast-math does at the start of a program, has to set it back before a call.
+ * - It counts on the processor's usual setting for floats, with which every program starts: rounding to nearest,
+ *   numbers too small to be normal not flushed to zero (MXCSR: RC = 0, FTZ = 0, DAZ = 0), exceptions masked. A thread
+ *   that has changed it, as -ffast-math does at the start of a program, has to set it back before a call.
  * - A NaN is a NaN: its sign and its other bits are not told apart.
  *
  * The archive liburtemval.a holds code for x86-64 Linux, needs no other library, and may be linked into executables and
@@ -30,7 +31,11 @@
 #endif
 
 #ifdef __cplusplus
+#if __cplusplus >= 201103L
 #define URTEMVAL_NOEXCEPT noexcept
+#else
+#define URTEMVAL_NOEXCEPT throw()
+#endif
 extern "C" {
 #else
 #define URTEMVAL_NOEXCEPT
@@ -121,8 +126,8 @@ typedef struct UrtemvalValue {
  * Nothing is said of times that were not tried (docs/GUARANTEES.md).
  * The norm of the displacements, urtemval_max_relative_norm of dx, is a right u_max.
  *
- * Refusals: 1 some number is NaN or an infinity; 2 one lies beyond its range, or the split is neither 2 nor 3; 3 the pair
- * starts with d above offset^2 and below park^2.
+ * Refusals: 1 some number is NaN or an infinity; 2 one lies beyond its range, or the split is neither 2 nor 3; 3 the
+ * pair starts with d above offset^2 and below park^2.
  */
 UrtemvalSafeTime urtemval_safe_time(const UrtemvalPoints *x0, const UrtemvalPoints *dx, size_t split,
                                     UrtemvalLimits limits) URTEMVAL_NOEXCEPT;
@@ -161,9 +166,9 @@ UrtemvalValue urtemval_scale_pair(UrtemvalPoints *x, UrtemvalPoints *dx, float m
 UrtemvalRoots urtemval_coplanar_times(const UrtemvalPoints *x0, const UrtemvalPoints *dx) URTEMVAL_NOEXCEPT;
 
 /*
- * The roots in 0..t of c0 + c1 x + c2 x^2 + c3 x^3: at most three, in the order of the spans between turning points. Of a
- * linear polynomial it is the fraction of the way from 0 to t (at t = 1, the root). Coefficients: size at most 2^20. t:
- * above 0, at most 1. epsilon, the size of a value at which a root is taken as found: 0 to 2^20.
+ * The roots in 0..t of c0 + c1 x + c2 x^2 + c3 x^3: at most three, in the order of the spans between turning points.
+ * Of a linear polynomial it is the fraction of the way from 0 to t (at t = 1, the root). Coefficients: size at most
+ * 2^20. t: above 0, at most 1. epsilon, the size of a value at which a root is taken as found: 0 to 2^20.
  *
  * Refusals: 1 some number is NaN or an infinity; 2 one lies beyond its range; 6 the values at both ends of a span are
  * zero; 7 the first guess lies outside 0..t; 8 a Newton step meets value 0 and slope 0.

@@ -22,8 +22,8 @@ fn check_target() {
     if !fits {
         fail(&format!(
             "the archive liburtemval.a holds code for x86-64 Linux, and cannot be linked for {}. Build with \
-             `--target x86_64-unknown-linux-gnu`; on another machine that takes this target's standard library, a cross \
-             linker (Debian's gcc-x86-64-linux-gnu) and an emulator (qemu-user) to run the result",
+             `--target x86_64-unknown-linux-gnu`; on another machine that takes this target's standard library, a \
+             cross linker (Debian's gcc-x86-64-linux-gnu) and an emulator (qemu-user) to run the result",
             setting("TARGET")
         ));
     }

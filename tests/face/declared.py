@@ -1,8 +1,8 @@
 #!/usr/bin/env python3
-"""declared.py rattle|c|rust|layout: the exported functions and their records, one a line, in words that are the same for
-the three languages. `rattle` reads the sources of the archive, `c` the header, `rust` the crate's declarations; tests/link
-holds the three lists to each other. `layout` prints the sizes and offsets that follow from the Rattle records, and the
-numbers of the kinds, as tests/face/layout.c and the Rust crate's test `layout` print them.
+"""declared.py rattle|c|rust|layout: the exported functions and their records, one a line, in words that are the same
+for the three languages. `rattle` reads the sources of the archive, `c` the header, `rust` the crate's declarations;
+tests/link holds the three lists to each other. `layout` prints the sizes and offsets that follow from the Rattle
+records, and the numbers of the kinds, as tests/face/layout.c and the Rust crate's test `layout` print them.
 """
 import pathlib
 import re
@@ -88,7 +88,8 @@ def rust():
 
 def c_word(declared):
     word = declared.replace("Urtemval", "")
-    words = {"float": "f32", "size_t": "usize", "uint32_t": "u32", "const Points *": "&Points", "Points *": "&mut Points"}
+    words = {"float": "f32", "size_t": "usize", "uint32_t": "u32"}
+    words.update({"const Points *": "&Points", "Points *": "&mut Points"})
     return words.get(word, word)
 
 

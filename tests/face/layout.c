@@ -1,6 +1,6 @@
 /*
- * Prints the sizes and offsets of the header's records and its constants, as this compiler has them. tests/link holds the
- * list to the one that the Rust crate gives and to the one of the Rattle sources.
+ * Prints the sizes and offsets of the header's records and its constants, as this compiler has them. tests/link holds
+ * the list to the one that the Rust crate gives and to the one of the Rattle sources.
  */
 #include <stdio.h>
 #include <urtemval.h>

@@ -1,6 +1,6 @@
 /*
- * Replays the calls of the frozen list (docs/TESTING.md, "The stream") through the archive, and holds each answer to the
- * one in the list, word by word. Fails where one differs, and where an exported function is not called at all.
+ * Replays the calls of the frozen list (docs/TESTING.md, "The stream") through the archive, and holds each answer to
+ * the one in the list, word by word. Fails where one differs, and where an exported function is not called at all.
  *   replay CALLS ANSWERS
  * It is compiled as C and as C++.
  */

@@ -31,8 +31,8 @@ pub extern "C" fn urtemval_max_relative_norm(x: &[[f32; 3]; 4], split: usize) ->
     answer::norm(norm::max_relative_norm(points, split))
 }
 
-// The lent points and displacements hold the scaled ones afterwards. A refused call stores nothing, so that they stay as
-// they were, bit for bit.
+// The lent points and displacements hold the scaled ones afterwards. A refused call stores nothing, so that they stay
+// as they were, bit for bit.
 #[no_mangle]
 pub extern "C" fn urtemval_scale_pair(
     x: &mut [[f32; 3]; 4],

@@ -1,9 +1,9 @@
 //! How far along a proposed move may two pieces of cloth or skin go?
 //!
 //! A drape solver proposes a move for every point of a mesh. For a face and a point, or for two edges, [`safe_time`]
-//! answers the time from 0 to 1 at which the move has to be cut, in single precision. This crate is a thin layer over a
-//! library that is proved, function by function, to answer what its rules say (docs/01-scope.md), for every input: what is
-//! not allowed is refused with a reason, every call ends, and no call panics.
+//! answers the time from 0 to 1 at which the move has to be cut, in single precision. This crate is a thin layer over
+//! a library that is proved, function by function, to answer what its rules say (docs/01-scope.md), for every input:
+//! what is not allowed is refused with a reason, every call ends, and no call panics.
 //!
 //! ```
 //! use urtemval::{max_relative_norm, safe_time, Answer, Limits, Split};
@@ -24,8 +24,8 @@
 //! # Ok::<(), urtemval::Refusal>(())
 //! ```
 //!
-//! Everything here may be called from many threads at once, and [`safe_times`] asks for many pairs by as many threads as
-//! the machine runs.
+//! Everything here may be called from many threads at once, and [`safe_times`] asks for many pairs by as many threads
+//! as the machine runs.
 //!
 //! # Numbers allowed
 //!
@@ -46,9 +46,9 @@
 //!
 //! # Linking
 //!
-//! The library is the archive `liburtemval.a`, code for x86-64 Linux that needs no other library. The build script has
-//! the project make it, or takes the one in the folder that the variable `URTEMVAL_LIB_DIR` names. For another target the
-//! build stops with an error that says so.
+//! The library is the archive `liburtemval.a`, code for x86-64 Linux that needs no other library. The build script
+//! has the project make it, or takes the one in the folder that the variable `URTEMVAL_LIB_DIR` names. For another
+//! target the build stops with an error that says so.
 
 #![deny(missing_docs)]
 
@@ -85,8 +85,8 @@ pub struct Limits {
     pub clearance: f32,
     /// The time limit, at most 1: the end of the displacements.
     pub max_t: f32,
-    /// No point of one side comes nearer to one of the other faster than this. [`max_relative_norm`] of the displacements
-    /// is right.
+    /// No point of one side comes nearer to one of the other faster than this. [`max_relative_norm`] of the
+    /// displacements is right.
     pub u_max: f32,
 }
 
@@ -171,8 +171,8 @@ impl PartialEq for Roots {
 ///
 /// # Errors
 ///
-/// [`Refusal::NotFinite`], [`Refusal::OutOfRange`], and [`Refusal::TooClose`] where the squared distance at the start is
-/// above offset² and below park².
+/// [`Refusal::NotFinite`], [`Refusal::OutOfRange`], and [`Refusal::TooClose`] where the squared distance at the start
+/// is above offset² and below park².
 ///
 /// ```
 /// use urtemval::{safe_time, Answer, Limits, Refusal, Split};
@@ -241,8 +241,8 @@ pub fn squared_distance(x: &Points, split: Split) -> Result<Distance, Refusal> {
     )
 }
 
-/// The largest distance between a point of the first side and a point of the second. Of displacements it is the greatest
-/// relative speed, right for `u_max`.
+/// The largest distance between a point of the first side and a point of the second. Of displacements it is the
+/// greatest relative speed, right for `u_max`.
 ///
 /// # Errors
 ///
@@ -261,8 +261,8 @@ pub fn max_relative_norm(x: &Points, split: Split) -> Result<f32, Refusal> {
     unless_refused(told.refusal, told.value)
 }
 
-/// Multiplies points and displacements so that the largest entry of `x`, and of `x + max_t dx`, is about 0.99, and answers
-/// the factor. Where it is refused both stay as they were.
+/// Multiplies points and displacements so that the largest entry of `x`, and of `x + max_t dx`, is about 0.99, and
+/// answers the factor. Where it is refused both stay as they were.
 ///
 /// # Errors
 ///
@@ -308,9 +308,9 @@ pub fn coplanar_times(x0: &Points, dx: &Points) -> Result<Roots, Refusal> {
     roots(unsafe { raw::urtemval_coplanar_times(x0, dx) })
 }
 
-/// The roots in 0..t of c\[0\] + c\[1\] x + c\[2\] x² + c\[3\] x³, in the order of the spans between turning points. Of a
-/// linear polynomial it is the fraction of the way from 0 to t (at t = 1, the root). `epsilon` is the size of a value at
-/// which a root is taken as found.
+/// The roots in 0..t of c\[0\] + c\[1\] x + c\[2\] x² + c\[3\] x³, in the order of the spans between turning points.
+/// Of a linear polynomial it is the fraction of the way from 0 to t (at t = 1, the root). `epsilon` is the size of a
+/// value at which a root is taken as found.
 ///
 /// # Errors
 ///

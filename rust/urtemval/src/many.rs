@@ -52,6 +52,7 @@ const SHARE: usize = 128;
 /// assert_eq!(answers[1], Err(Refusal::NotFinite));
 /// ```
 pub fn safe_times(queries: &[Query]) -> Vec<Result<SafeTime, Refusal>> {
+    // every place is written below
     let mut answers = vec![Err(Refusal::NotFinite); queries.len()];
     let shares = Mutex::new(queries.chunks(SHARE).zip(answers.chunks_mut(SHARE)));
     let work = || loop {
@@ -74,7 +75,6 @@ pub fn safe_times(queries: &[Query]) -> Vec<Result<SafeTime, Refusal>> {
         }
         work();
     });
-    drop(shares);
     answers
 }
 

@@ -1,9 +1,9 @@
 //! The functions of the archive as they are, with the records that they answer: what `include/urtemval.h` declares.
 //!
-//! A `refusal` of 0 means that a call is not refused; then the other fields hold the answer. The functions of the crate's
-//! root wrap these and are safe. Calling one here is sound whenever its pointers are references, which they are by
-//! their types, and the thread's float setting is the usual one (the header says which); it is `unsafe` because nothing
-//! checks these declarations against the archive but the project's own tests.
+//! A `refusal` of 0 means that a call is not refused; then the other fields hold the answer. The functions of the
+//! crate's root wrap these and are safe. Calling one here is sound whenever its pointers are references, which they
+//! are by their types, and the thread's float setting is the usual one (the header says which); it is `unsafe`
+//! because nothing checks these declarations against the archive but the project's own tests.
 
 use crate::{Limits, Points};
 

@@ -1,5 +1,5 @@
-//! Prints the sizes and offsets of the records and the constants, as this compiler has them. `tests/link` holds the list
-//! to the one that the header's C gives and to the one of the Rattle sources.
+//! Prints the sizes and offsets of the records and the constants, as this compiler has them. `tests/link` holds the
+//! list to the one that the header's C gives and to the one of the Rattle sources.
 
 use std::mem::{size_of, size_of_val};
 use urtemval::{raw, Limits, Points, Refusal, Split};

@@ -1,4 +1,5 @@
--- `urtemval::points::urtemval_max_relative_norm` meets its contract: the library's answer, told in numbers. Assumes nothing.
+-- `urtemval::points::urtemval_max_relative_norm` meets its contract: the library's answer, told in numbers. Assumes
+-- nothing.
 use borrow.Author.Needs.{needs}
 use Rattle.urtemval.proofs.points.urtemval_max_relative_norm.Statement.{statement}
 use Rattle.urtemval.proofs.points.urtemval_max_relative_norm.Tie as tie

@@ -1,5 +1,5 @@
--- `urtemval::points::urtemval_scale_pair` meets its contract: what is stored is what a scaling leaves, and where nothing
--- is stored it leaves the lent numbers. Assumes nothing.
+-- `urtemval::points::urtemval_scale_pair` meets its contract: what is stored is what a scaling leaves, and where
+-- nothing is stored it leaves the lent numbers. Assumes nothing.
 use mathlib.Core.Path.{_≡_, refl, sym, ap, _∙_}
 use mathlib.Core.Bool.{Bool, true, false, cond}
 use mathlib.Core.List.{List}
