@@ -1,0 +1,58 @@
+// The line of a pair in the listing (docs/01-scope.md, "The listing").
+use crate::text::put;
+use crate::text::put_decimal;
+use crate::text::put_hex;
+use crate::text::put_text;
+use ccd3::Answer;
+use ccd3::SafeTime;
+
+// The bits of a time. No time is NaN; the bits of one would be these.
+fn bits_of(t: f32) -> u32 {
+    if t != t {
+        return 0x7fc0_0000;
+    }
+    f32::to_bits(t)
+}
+
+// What follows the kind: the time's bits and the two counts.
+fn put_time(out: &mut [u8], at: usize, t: f32, probes: u32, halvings: u32) -> usize {
+    let a = put_hex(out, at, bits_of(t));
+    let b = put(out, a, b' ');
+    let c = put_decimal(out, b, probes);
+    let d = put(out, c, b' ');
+    put_decimal(out, d, halvings)
+}
+
+// The kind and what follows it.
+fn put_answer(out: &mut [u8], at: usize, answer: Answer, probes: u32, halvings: u32) -> usize {
+    match answer {
+        Answer::Touching(t) => {
+            let a = put_text(out, at, b" touching ");
+            put_time(out, a, t, probes, halvings)
+        }
+        Answer::Contact(t) => {
+            let a = put_text(out, at, b" contact ");
+            put_time(out, a, t, probes, halvings)
+        }
+        Answer::Clear(t) => {
+            let a = put_text(out, at, b" clear ");
+            put_time(out, a, t, probes, halvings)
+        }
+        Answer::Budget(t) => {
+            let a = put_text(out, at, b" budget ");
+            put_time(out, a, t, probes, halvings)
+        }
+        Answer::Refused(n) => {
+            let a = put_text(out, at, b" refused ");
+            put_decimal(out, a, n)
+        }
+    }
+}
+
+// The line of pair `index`, whose safe time this is.
+pub fn put_line(out: &mut [u8], at: usize, index: u32, safe: SafeTime) -> usize {
+    let answer = safe.answer;
+    let a = put_decimal(out, at, index);
+    let b = put_answer(out, a, answer, safe.probes, safe.halvings);
+    put(out, b, b'\n')
+}
