@@ -1,0 +1,3 @@
+-- What the proofs of `scene` share. Assumes nothing.
+pub mod Puts
+pub mod Nans
