@@ -1,44 +1,36 @@
+-- `scene::line::put_time` meets its contract: text after text. Assumes nothing.
 use borrow.Author.Needs.{needs}
+use Rattle.scene.specs.Text.{timeText}
+use Rattle.scene.proofs.Puts.{and-then}
 use Rattle.scene.proofs.line.put_time.Statement.{statement}
 use Rattle.scene.proofs.line.put_time.Tie as tie
-use Rattle.scene.proofs.line.put_time.Reads as reads
-use Rattle.scene.proofs.line.put_time.Lts as lts
-use Rattle.scene.proofs.line.bits_of.Reads as bits-of-reads
-use Rattle.scene.proofs.text.put.Reads as put-reads
-use Rattle.scene.proofs.text.put_decimal.Reads as put-decimal-reads
-use Rattle.scene.proofs.text.put_hex.Reads as put-hex-reads
 
--- src/line.rt:29:30
 bits-of-requires : tie.Need-bits-of-requires
 bits-of-requires c κs = search needs
 
--- src/line.rt:29:9
 put-hex-requires : tie.Need-put-hex-requires
 put-hex-requires c κs = search needs
 
--- src/line.rt:30:9
 put-requires : tie.Need-put-requires
 put-requires c κs = search needs
 
--- src/line.rt:31:9
 put-decimal-requires : tie.Need-put-decimal-requires
 put-decimal-requires c κs = search needs
 
--- src/line.rt:32:9
 put-requires-2 : tie.Need-put-requires-2
 put-requires-2 c κs = search needs
 
--- src/line.rt:33:5
 put-decimal-requires-2 : tie.Need-put-decimal-requires-2
 put-decimal-requires-2 c κs = search needs
 
--- src/line.rt:25:1
 same-length : tie.Need-same-length
 same-length c = search needs
 
--- src/line.rt:25:1
 returns : tie.Need-returns
-returns c = ?
+unfolding timeText
+returns c =
+    let bits = rw (c .before .before .before .before .before .before .before .before .before .before .before .before .before .before .before .before .before .before .before .bits-of .ensures) at (c .before .before .before .before .before .before .before .before .before .before .before .before .before .before .before .before .before .before .put-hex .ensures .0) in
+    (and-then (and-then (and-then (and-then bits (c .before .before .before .before .before .before .before .before .before .before .before .before .before .before .put .ensures .0)) (c .before .before .before .before .before .before .before .before .before .before .put-decimal .ensures .0)) (c .before .before .before .before .before .before .put2 .ensures .0)) (c .before .before .put-decimal2 .ensures .0), search needs)
 
 pub put-time-spec : {M : Type 1} → statement M
 put-time-spec =

@@ -1,35 +1,27 @@
+-- `scene::listing::put_head` meets its contract: text after text. Assumes nothing.
 use borrow.Author.Needs.{needs}
+use Rattle.scene.proofs.Puts.{and-then}
 use Rattle.scene.proofs.listing.put_head.Statement.{statement}
 use Rattle.scene.proofs.listing.put_head.Tie as tie
-use Rattle.scene.proofs.listing.put_head.Reads as reads
-use Rattle.scene.proofs.listing.put_head.Lts as lts
-use Rattle.scene.proofs.text.put.Reads as put-reads
-use Rattle.scene.proofs.text.put_decimal.Reads as put-decimal-reads
-use Rattle.scene.proofs.text.put_text.Reads as put-text-reads
 
--- src/listing.rt:27:30
 slice-aggregate-put-text : tie.Need-slice-aggregate-put-text
 slice-aggregate-put-text c = search needs
 
--- src/listing.rt:27:9
 put-text-requires : tie.Need-put-text-requires
 put-text-requires c κs = search needs
 
--- src/listing.rt:28:9
 put-decimal-requires : tie.Need-put-decimal-requires
 put-decimal-requires c κs = search needs
 
--- src/listing.rt:29:5
 put-requires : tie.Need-put-requires
 put-requires c κs = search needs
 
--- src/listing.rt:24:1
 same-length : tie.Need-same-length
 same-length c = search needs
 
--- src/listing.rt:24:1
 returns : tie.Need-returns
-returns c = ?
+returns c =
+    (and-then (and-then (c .before .before .before .before .before .before .before .before .before .before .put-text .ensures) (c .before .before .before .before .before .before .put-decimal .ensures .0)) (c .before .before .put .ensures .0), search needs)
 
 pub put-head-spec : {M : Type 1} → statement M
 put-head-spec =

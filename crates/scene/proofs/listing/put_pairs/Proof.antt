@@ -1,52 +1,70 @@
+-- `scene::listing::put_pairs` meets its contract: after i turns the lines of the first i pairs are put. A line has at
+-- most 51 bytes. Assumes nothing.
+use Prim.Native.Nat.{ℕ, _+_, _*_, _-_, _≤_}
+use native.Mathlib.Nat.{le-antisymm}
+use native.Mathlib.Numerals.{add-one}
+use native.Mathlib.Omega.{arith}
+use mathlib.Core.Path.{_≡_, refl, sym, ap, _∙_}
+use mathlib.Core.List.{List, _++_}
+use borrow.Author.Needs.{needs}
+use lib.ListN.{length}
+use Rattle.scene.specs.Text.{Put, line}
+use Rattle.scene.specs.Pairs.{timeOf}
+use Rattle.scene.specs.Listing.{head, lines}
+use Rattle.scene.proofs.Puts.{and-then, as-text, keeps-length, nothing}
 use Rattle.scene.proofs.listing.put_pairs.Statement.{statement}
 use Rattle.scene.proofs.listing.put_pairs.Tie as tie
-use Rattle.scene.proofs.listing.put_pairs.Reads as reads
-use Rattle.scene.proofs.listing.put_pairs.Lts as lts
-use Rattle.scene.proofs.line.put_line.Reads as put-line-reads
-use Rattle.scene.proofs.listing.put_head.Reads as put-head-reads
-use Rattle.scene.proofs.pairs.safe_time.Reads as safe-time-reads
 
 abbrev Inv-loop : tie.InvT-loop
-Inv-loop s pairs out₀ at₀ i₀ out at i = ?
+Inv-loop s pairs out₀ at₀ i₀ out at i = (i ≤ pairs) × (at ≤ at₀ + 51 * i) × Put out₀ at₀ (lines s i) out at
 
 abbrev μ-loop : tie.MeasureT-loop
-μ-loop s pairs out₀ at₀ i₀ out at i = ?
+μ-loop s pairs out₀ at₀ i₀ out at i = pairs - i
 
--- src/listing.rt:37:9
+one-more : (s : List ℕ) (i : ℕ) → lines s i ++ line i (timeOf s i) ≡ lines s (i + 1)
+unfolding lines
+one-more s i = rw add-one
+
 put-head-requires : tie.Need-put-head-requires Inv-loop μ-loop
-put-head-requires c κs = ?
+put-head-requires c κs = search needs
 
--- src/listing.rt:39:5
 loop-holds : tie.Need-loop-holds Inv-loop μ-loop
-loop-holds c = ?
+unfolding lines
+loop-holds c = (search needs, search needs, nothing _ _)
 
--- src/listing.rt:40:35
 safe-time-requires : tie.Need-safe-time-requires Inv-loop μ-loop
-safe-time-requires c κs = ?
+safe-time-requires c κs = search needs
 
--- src/listing.rt:40:9
 put-line-requires : tie.Need-put-line-requires Inv-loop μ-loop
-put-line-requires c κs = ?
+put-line-requires c κs = search needs
 
--- src/listing.rt:41:9
 add-i : tie.Need-add-i Inv-loop μ-loop
-add-i c = ?
+add-i c = search needs
 
--- src/listing.rt:39:5
 loop-less : tie.Need-loop-less Inv-loop μ-loop
-loop-less c = ?
+loop-less c = search needs
 
--- src/listing.rt:39:5
 loop-again : tie.Need-loop-again Inv-loop μ-loop
-loop-again c = ?
+loop-again c =
+    let head = c .before .before .before .before .before .before .before .before .before in
+    let s = head .before .before .before .before .args .s .now in
+    let i = c .before .before .before .before .before .before .loop .i in
+    let put = rw (c .before .before .before .safe-time .ensures) at (c .before .before .put-line .ensures .0) in
+    (search needs, search needs, as-text (one-more s i) (and-then (c .before .before .before .before .before .before .loop .inv .2) put))
 
--- src/listing.rt:33:1
+-- the first line and those of the pairs
+all : (c : tie.After-loop Inv-loop μ-loop)
+    → Put (c .before .before .before .before .before .before .before .before .args .out .now) 0 (head (c .before .before .before .before .before .before .before .before .args .pairs) ++ lines (c .before .before .before .before .before .before .before .before .args .s .now) (c .before .before .before .before .before .before .before .before .args .pairs))
+    (c .before .loop .out) (c .before .loop .at)
+all c =
+    let end = le-antisymm (c .before .loop .inv .0) (c .loop-test .left) in
+    and-then (c .before .before .before .before .put-head .ensures .0) (as-text (ap (lines (c .before .before .before .before .before .before .before .before .args .s .now)) end) (c .before .loop .inv .2))
+
 same-length : tie.Need-same-length Inv-loop μ-loop
-same-length c = ?
+same-length c = keeps-length (all c)
 
--- src/listing.rt:33:1
 returns : tie.Need-returns Inv-loop μ-loop
-returns c = ?
+returns c = (all c, search needs)
 
 pub put-pairs-spec : {M : Type 1} → statement M
 put-pairs-spec =
