@@ -9,8 +9,8 @@ use geometry::vec3::scalar_triple_product;
 use geometry::vec3::sub;
 use polynomial_root::answer::Roots;
 use polynomial_root::answer::refused;
-use polynomial_root::cubic::Cubic;
 use polynomial_root::cubic_roots_in_range_zero_to_t;
+use polynomial_root::cubic::Cubic;
 
 // The volume spanned by three edges that move, as a cubic of the time.
 fn volume(
