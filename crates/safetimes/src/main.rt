@@ -1,42 +1,61 @@
 // The safe times of a scene (docs/01-scope.md, "The scene file", "The listing"): reads a scene file from standard
 // input and writes its listing to standard output. What fails is said on standard error.
+ghost use Prim.Native.Nat.{_+_, _≤_};
+ghost use lib.ListN.{length};
+ghost use Rattle.io.specs.Counts.{Counts};
 use libc::STDERR_FILENO;
 use libc::STDIN_FILENO;
 use libc::STDOUT_FILENO;
 
-// Reads on from byte `at` of the buffer. Answers how many bytes came, 0 at the end of the input or where the buffer is
-// full; or says that the read failed, and answers -1.
-fn read_on(buffer: &mut [u8], at: usize) -> isize {
-    if buffer.len() <= at {
-        return 0;
-    }
+// What a read gave: how many bytes, or that it failed.
+struct Got {
+    failed: bool,
+    count: usize,
+}
+
+// Reads once, into the buffer from byte `at` on.
+fn read_on(buffer: &mut [u8], at: usize) -> Got
+    requires { ⌜ at ≤ length (now buffer) ⌝ }
+    ensures { λ r. ⌜ at + r .count ≤ length (now (buffer .entry)) ⌝ }
+{
     let got = libc::read(STDIN_FILENO, &mut buffer[at..]);
     if got < 0 {
-        os::fail(b"safetimes: standard input");
+        return Got {
+            failed: true,
+            count: 0,
+        };
     }
-    got
+    Got {
+        failed: false,
+        count: io::count(got, &buffer[at..]),
+    }
 }
 
-// What was read of the input.
-enum Input {
-    Bytes(usize),
-    Failed,
-}
-
-// Reads until the input ends or the buffer is full.
-fn read_all(buffer: &mut [u8]) -> Input {
+// Reads until the input ends, a read fails or the buffer is full.
+fn read_all(buffer: &mut [u8]) -> Got
+    ensures { λ r. ⌜ Counts (r .count) (now (buffer .exit)) ⌝ }
+{
     let mut at = 0;
     while at < buffer.len() {
         let got = read_on(buffer, at);
-        if got < 0 {
-            return Input::Failed;
+        if got.failed {
+            return Got {
+                failed: true,
+                count: 0,
+            };
         }
-        if got == 0 {
-            return Input::Bytes(at);
+        if got.count == 0 {
+            return Got {
+                failed: false,
+                count: at,
+            };
         }
-        at += got as usize;
+        at += got.count;
     }
-    Input::Bytes(at)
+    Got {
+        failed: false,
+        count: at,
+    }
 }
 
 fn usage() {
@@ -46,23 +65,27 @@ fn usage() {
     );
 }
 
-// The buffer is longer than any scene file, so that a file that fills it is refused for its length.
-fn list() {
-    let mut input = io::large_buffer();
-    let Input::Bytes(n) = read_all(&mut input) else {
-        return;
-    };
-    let mut out = io::large_buffer();
-    let m = scene::listing::listing(&input[..n], &mut out);
-    if !io::write_all(STDOUT_FILENO, &out[..m]) {
+// Lists the scene that these bytes are.
+fn list(bytes: &[u8]) {
+    let mut text = io::large_buffer();
+    let n = scene::listing::listing(bytes, &mut text);
+    if !io::write_all(STDOUT_FILENO, &text[..n]) {
         os::fail(b"safetimes: standard output");
     }
 }
 
+// The buffer is longer than any scene file, so that a file that fills it is refused for its length.
 fn main() {
     if os::arg_count() > 1 {
         usage();
-    } else {
-        list();
+        return;
     }
+    let mut buffer = io::large_buffer();
+    let got = read_all(&mut buffer);
+    if got.failed {
+        os::fail(b"safetimes: standard input");
+        return;
+    }
+    let n = got.count;
+    list(&buffer[..n]);
 }
