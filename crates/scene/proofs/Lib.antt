@@ -1,0 +1,4 @@
+-- What the proofs of `scene` share. Assumes nothing.
+pub mod Puts
+pub mod Nans
+pub mod Scenes

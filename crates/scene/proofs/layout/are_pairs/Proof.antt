@@ -1,0 +1,53 @@
+-- `scene::layout::are_pairs` meets its contract: after i turns the first i pairs are tested. Assumes nothing.
+use Prim.Native.Nat.{_-_, _≤_}
+use native.Mathlib.Nat.{le-antisymm}
+use native.Mathlib.Numerals.{add-one}
+use native.Mathlib.Omega.{arith}
+use mathlib.Core.Path.{_≡_, refl, ap, _∙_}
+use borrow.Author.Needs.{needs}
+use Rattle.scene.specs.Layout.{arePairs}
+use Rattle.scene.proofs.layout.are_pairs.Statement.{statement}
+use Rattle.scene.proofs.layout.are_pairs.Tie as tie
+
+abbrev Inv-loop : tie.InvT-loop
+Inv-loop s points pairs good₀ i₀ good i = (i ≤ pairs) × (good ≡ arePairs s points i)
+
+abbrev μ-loop : tie.MeasureT-loop
+μ-loop s points pairs good₀ i₀ good i = pairs - i
+
+loop-holds : tie.Need-loop-holds Inv-loop μ-loop
+unfolding arePairs
+loop-holds c = (search needs, refl)
+
+pair-at-requires : tie.Need-pair-at-requires Inv-loop μ-loop
+pair-at-requires c κs = search needs
+
+is-pair-requires : tie.Need-is-pair-requires Inv-loop μ-loop
+is-pair-requires c κs = search needs
+
+add-i : tie.Need-add-i Inv-loop μ-loop
+add-i c = search needs
+
+loop-less : tie.Need-loop-less Inv-loop μ-loop
+loop-less c = search needs
+
+loop-again : tie.Need-loop-again Inv-loop μ-loop
+unfolding arePairs
+loop-again c = (search needs, rw (add-one, c .is-pair .ensures, c .before .pair-at .ensures .0, c .before .before .before .loop .inv .1))
+
+returns : tie.Need-returns Inv-loop μ-loop
+returns c = c .before .loop .inv .1 ∙ ap (arePairs _ _) (le-antisymm (c .before .loop .inv .0) (c .loop-test .left))
+
+pub are-pairs-spec : {M : Type 1} → statement M
+are-pairs-spec =
+    tie.close
+    (tie.spec
+    Inv-loop
+    μ-loop
+    loop-holds
+    pair-at-requires
+    is-pair-requires
+    add-i
+    loop-less
+    loop-again
+    returns)

@@ -1,0 +1,6 @@
+-- What the contracts of `scene` cite. Definitions only.
+pub mod Words
+pub mod Layout
+pub mod Pairs
+pub mod Text
+pub mod Listing
