@@ -9,8 +9,8 @@
  * - It answers whatever numbers it is given: what is not allowed is refused, by the first field of the answer.
  * - A pointer must not be null, must point to a whole UrtemvalPoints, aligned as C aligns it, and what it points to
  *   must not overlap what another argument of the same call points to.
- * - It keeps no state, reads only its arguments, writes only its answer and what it is lent, allocates nothing, calls
- *   nothing and always returns. It may be called from many threads at once.
+ * - It is pure: it keeps no state, reads only its arguments, writes only its answer and what it is lent, allocates
+ *   nothing, calls nothing and always returns. It may be called from many threads at once.
  * - It counts on the processor's usual setting for floats, with which every program starts: rounding to nearest,
  *   numbers too small to be normal not flushed to zero (MXCSR: RC = 0, FTZ = 0, DAZ = 0), exceptions masked. A thread
  *   that has changed it, as -ffast-math does at the start of a program, has to set it back before a call.
