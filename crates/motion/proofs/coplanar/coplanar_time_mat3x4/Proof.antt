@@ -1,34 +1,67 @@
 -- `motion::coplanar::coplanar_time_mat3x4` meets its contract, by either way through its test. Assumes nothing.
-use mathlib.Core.Path.{_≡_, ap, _∙_}
+use Prim.Native.Nat.{ℕ}
+use mathlib.Core.Path.{_≡_, refl, sym, subst, ap, _∙_}
+use mathlib.Core.Bool.{Bool, true, false, cond, not, _&&_}
 use borrow.Author.Needs.{needs}
+use lib.Dec.{T}
+use lib.Ieee.{Float}
 use Rattle.number.specs.Number.{zero32, one32}
+use Rattle.number.specs.Range.{between}
+use Rattle.polynomial_root.specs.Lower.{vanishes}
+use Rattle.polynomial_root.specs.Promises.{Tidy, InRange, reach}
+use Rattle.polynomial_root.specs.declared.answer.Roots.{Roots}
 use Rattle.polynomial_root.specs.declared.cubic.Cubic.{Cubic}
 use Rattle.polynomial_root.specs.Roots.{refused}
 use Rattle.polynomial_root.specs.Called.{cubicRootsInRange}
+use Rattle.polynomial_root.proofs.Places.{Holds, refused-holds}
 use Rattle.admission.specs.Admission.{motionRefusal}
 use Rattle.motion.specs.Coplanar.{motionCubic, coplanarTimes}
 use Rattle.admission.proofs.Taken as by
 use Rattle.motion.proofs.coplanar.coplanar_time_mat3x4.Statement.{statement}
 use Rattle.motion.proofs.coplanar.coplanar_time_mat3x4.Tie as tie
 
+-- a linear root lies in 0..1, and so does any other where the range is 0..1
+to-one : (p : Cubic) → reach p one32 ≡ one32
+to-one p = either (vanishes (p .c3) && vanishes (p .c2) && not (vanishes (p .c1)))
+  where
+    either : (b : Bool) → cond b one32 one32 ≡ one32
+    either true = refl
+    either false = refl
+
+-- no root beside a refusal
+none-beside : (n : ℕ) {r : Roots} → r ≡ refused n → Tidy r × InRange one32 r
+none-beside n e =
+    let h = subst (Holds (λ (z : Float). T (between zero32 one32 z))) (sym e) (refused-holds _ n) in (h .tidy, h .each)
+
 returns : tie.Need-returns
 unfolding coplanarTimes
 returns c =
     let n = c .before .before .before in
     let a = n .before .args in
-    c .cubic-roots-in-range-zero-to-t .ensures .0
-    ∙ ap (λ (p : Cubic). cubicRootsInRange p one32 zero32) (c .before .motion-cubic .ensures)
-    ∙ by.taken (cubicRootsInRange (motionCubic (a .x0) (a .dx)) one32 zero32) (refused (motionRefusal (a .x0) (a .dx)))
-    (motionRefusal (a .x0) (a .dx)) (n .admit-motion .result) (n .admit-motion .ensures) (c .before .before .if1 .taken)
+    let found = c .cubic-roots-in-range-zero-to-t in (
+      found .ensures .0
+          ∙ ap (λ (p : Cubic). cubicRootsInRange p one32 zero32) (c .before .motion-cubic .ensures)
+          ∙ by.taken (cubicRootsInRange (motionCubic (a .x0) (a .dx)) one32 zero32)
+          (refused (motionRefusal (a .x0) (a .dx))) (motionRefusal (a .x0) (a .dx)) (n .admit-motion .result)
+          (n .admit-motion .ensures) (c .before .before .if1 .taken),
+      (
+        found .ensures .1 .0,
+        subst (λ (end : Float). InRange end (found .result)) (to-one (c .before .motion-cubic .result))
+            (found .ensures .1 .1),
+      ),
+    )
 
 returns-2 : tie.Need-returns-2
 unfolding coplanarTimes
 returns-2 c =
     let n = c .before .before in
-    let a = n .before .args in
-    c .refused .ensures ∙ ap refused (n .admit-motion .ensures)
-    ∙ by.refused (cubicRootsInRange (motionCubic (a .x0) (a .dx)) one32 zero32) (refused (motionRefusal (a .x0) (a .dx)))
-    (motionRefusal (a .x0) (a .dx)) (n .admit-motion .result) (n .admit-motion .ensures) (c .before .if1 .left)
+    let a = n .before .args in (
+      c .refused .ensures ∙ ap refused (n .admit-motion .ensures)
+          ∙ by.refused (cubicRootsInRange (motionCubic (a .x0) (a .dx)) one32 zero32)
+          (refused (motionRefusal (a .x0) (a .dx))) (motionRefusal (a .x0) (a .dx)) (n .admit-motion .result)
+          (n .admit-motion .ensures) (c .before .if1 .left),
+      none-beside (n .admit-motion .result) (c .refused .ensures),
+    )
 
 pub coplanar-time-mat3x4-spec : {M : Type 1} → statement M
 coplanar-time-mat3x4-spec =
