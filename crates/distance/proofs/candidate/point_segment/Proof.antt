@@ -6,7 +6,7 @@ use Rattle.distance.proofs.candidate.point_segment.Tie as tie
 
 returns : tie.Need-returns
 unfolding pointSegment
-returns c = cc
+returns c = rw (c .from-to .ensures, c .before .place-on .ensures)
 
 pub point-segment-spec : {M : Type 1} → statement M
 point-segment-spec =

@@ -6,7 +6,7 @@ use Rattle.distance.proofs.candidate.segment_point.Tie as tie
 
 returns : tie.Need-returns
 unfolding segmentPoint
-returns c = cc
+returns c = rw (c .from-to .ensures, c .before .place-on .ensures)
 
 pub segment-point-spec : {M : Type 1} → statement M
 segment-point-spec =

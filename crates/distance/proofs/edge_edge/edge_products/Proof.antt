@@ -6,7 +6,13 @@ use Rattle.distance.proofs.edge_edge.edge_products.Tie as tie
 
 returns : tie.Need-returns
 unfolding edgeProducts
-returns c = cc
+returns c =
+    rw (
+      c .products-of .ensures,
+      c .before .sub3 .ensures,
+      c .before .before .sub2 .ensures,
+      c .before .before .before .sub .ensures,
+    )
 
 pub edge-products-spec : {M : Type 1} → statement M
 edge-products-spec =

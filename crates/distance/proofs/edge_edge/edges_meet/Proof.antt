@@ -6,7 +6,13 @@ use Rattle.distance.proofs.edge_edge.edges_meet.Tie as tie
 
 returns : tie.Need-returns
 unfolding edgesMeet
-returns c = cc
+returns c =
+    rw (
+      c .zero-to-one2 .ensures,
+      c .before .ae-minus-bd .ensures,
+      c .before .before .zero-to-one .ensures,
+      c .before .before .before .be-minus-cd .ensures,
+    )
 
 pub edges-meet-spec : {M : Type 1} → statement M
 edges-meet-spec =

@@ -6,7 +6,14 @@ use Rattle.distance.proofs.edge_edge.interior.Tie as tie
 
 returns : tie.Need-returns
 unfolding edgeInterior
-returns c = cc
+returns c =
+    rw (
+      c .from-to .ensures,
+      c .before .lerp2 .ensures,
+      c .before .before .ae-minus-bd .ensures,
+      c .before .before .before .lerp .ensures,
+      c .before .before .before .before .be-minus-cd .ensures,
+    )
 
 pub interior-spec : {M : Type 1} → statement M
 interior-spec =

@@ -6,7 +6,13 @@ use Rattle.distance.proofs.face_vertex.face_products.Tie as tie
 
 returns : tie.Need-returns
 unfolding faceProducts
-returns c = cc
+returns c =
+    rw (
+      c .products-of .ensures,
+      c .before .sub3 .ensures,
+      c .before .before .sub2 .ensures,
+      c .before .before .before .sub .ensures,
+    )
 
 pub face-products-spec : {M : Type 1} → statement M
 face-products-spec =

@@ -6,7 +6,7 @@ use Rattle.distance.proofs.face_vertex.over_face.Tie as tie
 
 returns : tie.Need-returns
 unfolding overFace
-returns c = cc
+returns c = rw (c .before .ae-minus-bd .ensures, c .before .before .cd-minus-be .ensures)
 
 pub over-face-spec : {M : Type 1} → statement M
 over-face-spec =

@@ -6,7 +6,14 @@ use Rattle.distance.proofs.products.products_of.Tie as tie
 
 returns : tie.Need-returns
 unfolding productsOf
-returns c = cc
+returns c =
+    rw (
+      c .dot5 .ensures,
+      c .before .dot4 .ensures,
+      c .before .before .dot3 .ensures,
+      c .before .before .before .dot2 .ensures,
+      c .before .before .before .before .dot .ensures,
+    )
 
 pub products-of-spec : {M : Type 1} → statement M
 products-of-spec =

@@ -6,7 +6,7 @@ use Rattle.distance.proofs.segment.place_on.Tie as tie
 
 returns : tie.Need-returns
 unfolding placeOn
-returns c = cc
+returns c = rw (c .lerp .ensures, c .before .ratio .ensures, c .before .before .sub .ensures)
 
 pub place-on-spec : {M : Type 1} → statement M
 place-on-spec =

@@ -30,7 +30,7 @@ returns c =
     let s = v .before .before in
     let a = s .before .args in
     stops (a .p) (a .t) (a .epsilon) (a .guess) (s .loop .r) (s .loop .i) (s .loop .inv .1)
-    (v .before .loop-test .taken) _ (v .value-at .ensures) _ (c .before .size .ensures) (c .if1 .taken)
+    (omega arith) _ (v .value-at .ensures) _ (c .before .size .ensures) (c .if1 .taken)
 
 slope-at-requires : tie.Need-slope-at-requires Inv-loop μ-loop
 slope-at-requires c κs = search needs
@@ -42,7 +42,7 @@ returns-2 c =
     let s = v .before .before in
     let a = s .before .args in
     refuses (a .p) (a .t) (a .epsilon) (a .guess) (s .loop .r) (s .loop .i) (s .loop .inv .1)
-    (v .before .loop-test .taken) _ (v .value-at .ensures) _ (e .before .size .ensures) (e .if1 .left)
+    (omega arith) _ (v .value-at .ensures) _ (e .before .size .ensures) (e .if1 .left)
     _ (c .before .slope-at .ensures) (c .if2 .taken)
 
 clamp-requires : tie.Need-clamp-requires Inv-loop μ-loop
@@ -63,7 +63,7 @@ loop-again c =
     let a = s .before .args in (
       omega arith,
       goes-on (a .p) (a .t) (a .epsilon) (a .guess) (s .loop .r) (s .loop .i) (s .loop .inv .1)
-          (v .before .loop-test .taken) _ (v .value-at .ensures) _ (e .before .size .ensures) (e .if1 .left)
+          (omega arith) _ (v .value-at .ensures) _ (e .before .size .ensures) (e .if1 .left)
           _ (d .slope-at .ensures) (c .before .if2 .left) _ (c .clamp .ensures),
     )
 
@@ -72,7 +72,7 @@ returns-3 c =
     let s = c .before in
     let a = s .before .args in
     out-of-steps (a .p) (a .t) (a .epsilon) (a .guess) (s .loop .r) (s .loop .i) (s .loop .inv .1) (s .loop .inv .0)
-    (c .loop-test .left)
+    (omega arith)
 
 pub descend-spec : {M : Type 1} → statement M
 descend-spec =
