@@ -2,3 +2,4 @@
 pub mod Puts
 pub mod Nans
 pub mod Scenes
+pub mod Spelling

@@ -3,4 +3,5 @@ pub mod Words
 pub mod Layout
 pub mod Pairs
 pub mod Text
+pub mod Spelled
 pub mod Listing

@@ -31,7 +31,7 @@ read-requires : tie.Need-read-requires
 read-requires c κs = search needs
 
 put-pairs-requires : tie.Need-put-pairs-requires
-put-pairs-requires c κs = rw (c .before .before .before .read .ensures) (few-pairs _)
+put-pairs-requires c κs = rw (c .before .before .before .read .ensures .0) (few-pairs _)
 
 put-refused-requires : tie.Need-put-refused-requires
 put-refused-requires c κs = search needs
@@ -42,7 +42,7 @@ same-length c = search needs
 returns : tie.Need-returns
 returns c =
     let read = c .before .before .before .before .before .before in (
-      as-text (lists _ (read .read .result) (read .read .ensures) (c .before .before .before .before .if1 .taken))
+      as-text (lists _ (read .read .result) (read .read .ensures .0) (c .before .before .before .before .if1 .taken))
           (c .before .before .put-pairs .ensures .0),
       c .before .before .put-pairs .ensures .1,
     )
@@ -53,7 +53,7 @@ same-length-2 c = search needs
 returns-2 : tie.Need-returns-2
 returns-2 c =
     let read = c .before .before .before .before .before .before in (
-      as-text (refusal-listed _ (read .read .result) (read .read .ensures) (c .before .before .before .before .if1 .left))
+      as-text (refusal-listed _ (read .read .result) (read .read .ensures .0) (c .before .before .before .before .if1 .left))
           (c .before .before .put-refused .ensures .0),
       search needs,
     )
