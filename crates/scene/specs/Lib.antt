@@ -2,6 +2,4 @@
 pub mod Words
 pub mod Layout
 pub mod Pairs
-pub mod Text
 pub mod Spelled
-pub mod Listing
