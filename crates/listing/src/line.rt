@@ -1,6 +1,8 @@
 // The line of a pair in the listing (docs/01-scope.md, "The listing").
 ghost use mathlib.Core.Path.{_≡_};
+ghost use mathlib.Core.List.{_++_};
 ghost use Prim.Native.Nat.{_<_, _≤_, _+_};
+ghost use lib.ListN.{length};
 ghost use lib.Ieee.{binary32, toBits};
 ghost use Rattle.listing.specs.Text.{Put};
 ghost use Rattle.listing.specs.Text as Def;
@@ -33,28 +35,25 @@ fn put_time(out: &mut [u8], at: usize, t: f32, probes: u32, halvings: u32) -> us
     put_decimal(out, d, halvings)
 }
 
-// The kind and what follows it.
+// The word of a kind and what follows it.
+fn put_timed(out: &mut [u8], at: usize, kind: &[u8], t: f32, probes: u32, halvings: u32) -> usize
+    requires { ⌜ (at < 0x800_0000) × (length (now kind) ≤ 10) ⌝ }
+    ensures { λ r. ⌜ Put (now (out .entry)) at (now (kind .entry) ++ Def.timeText t probes halvings) (now (out .exit)) r × (r ≤ at + 40) ⌝ }
+{
+    let a = put_text(out, at, kind);
+    put_time(out, a, t, probes, halvings)
+}
+
+// The answer: a time of its kind, or a refusal.
 fn put_answer(out: &mut [u8], at: usize, answer: Answer, probes: u32, halvings: u32) -> usize
     requires { ⌜ at < 0x800_0000 ⌝ }
     ensures { λ r. ⌜ Put (now (out .entry)) at (Def.answerText answer probes halvings) (now (out .exit)) r × (r ≤ at + 40) ⌝ }
 {
     match answer {
-        Answer::Touching(t) => {
-            let a = put_text(out, at, b" touching ");
-            put_time(out, a, t, probes, halvings)
-        }
-        Answer::Contact(t) => {
-            let a = put_text(out, at, b" contact ");
-            put_time(out, a, t, probes, halvings)
-        }
-        Answer::Clear(t) => {
-            let a = put_text(out, at, b" clear ");
-            put_time(out, a, t, probes, halvings)
-        }
-        Answer::Budget(t) => {
-            let a = put_text(out, at, b" budget ");
-            put_time(out, a, t, probes, halvings)
-        }
+        Answer::Touching(t) => put_timed(out, at, b" touching ", t, probes, halvings),
+        Answer::Contact(t) => put_timed(out, at, b" contact ", t, probes, halvings),
+        Answer::Clear(t) => put_timed(out, at, b" clear ", t, probes, halvings),
+        Answer::Budget(t) => put_timed(out, at, b" budget ", t, probes, halvings),
         Answer::Refused(n) => {
             let a = put_text(out, at, b" refused ");
             put_decimal(out, a, n)
