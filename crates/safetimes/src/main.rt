@@ -68,7 +68,7 @@ fn usage() {
 // Lists the scene that these bytes are.
 fn list(bytes: &[u8]) {
     let mut text = io::large_buffer();
-    let n = scene::listing::listing(bytes, &mut text);
+    let n = listing::listing(bytes, &mut text);
     if !io::write_all(STDOUT_FILENO, &text[..n]) {
         os::fail(b"safetimes: standard output");
     }

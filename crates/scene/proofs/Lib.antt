@@ -1,4 +1,4 @@
--- What the proofs of `scene` share. Assumes nothing.
-pub mod Puts
-pub mod Nans
+-- Laws that other crates cite, and helpers of this one. Assumes nothing.
 pub mod Scenes
+pub mod Spelling
+mod Nans

@@ -2,5 +2,4 @@
 pub mod Words
 pub mod Layout
 pub mod Pairs
-pub mod Text
-pub mod Listing
+pub mod Spelled

@@ -3,6 +3,7 @@
 ghost use mathlib.Core.Path.{_≡_};
 ghost use Prim.Native.Nat.{_<_};
 ghost use Rattle.scene.specs.Layout as Def;
+ghost use Rattle.scene.specs.Spelled.{Taken};
 use crate::places::displacements_at;
 use crate::places::limits_at;
 use crate::places::pair_at;
@@ -68,7 +69,8 @@ fn refused(refusal: u32) -> Scene
 
 // What the file is.
 pub fn read(s: &[u8]) -> Scene
-    ensures { λ r. ⌜ r ≡ Def.sceneOf (now (s .entry)) ⌝ }
+    ensures scene { λ r. ⌜ r ≡ Def.sceneOf (now (s .entry)) ⌝ }
+    ensures taken { λ r. ⌜ Taken (now (s .entry)) r ⌝ }
 {
     if is_laid_out(s) {
         let points = point_count(s);

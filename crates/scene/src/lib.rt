@@ -1,5 +1,5 @@
-// A scene file and the listing of its safe times (docs/01-scope.md, "The scene file", "The listing"): from the bytes
-// of the file to the bytes of the text. Nothing is copied out of the file: a number is read where it lies.
+// A scene file (docs/01-scope.md, "The scene file"): whether its bytes are a scene, and the safe time of each of its
+// pairs. Nothing is copied out of the file: a number is read where it lies.
 
 // Words and numbers of the file, and where its sections begin.
 mod places;
@@ -10,10 +10,3 @@ pub mod layout;
 
 // A pair of the scene: its numbers, and its safe time.
 pub mod pairs;
-
-// Text in a lent buffer.
-mod line;
-mod text;
-
-// The listing.
-pub mod listing;

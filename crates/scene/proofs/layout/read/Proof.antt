@@ -1,9 +1,39 @@
 -- `scene::layout::read` meets its contract, in its three cases. Assumes nothing.
 use borrow.Author.Needs.{needs}
 use mathlib.Core.Path.{_≡_, sym, _∙_}
-use Rattle.scene.specs.Layout.{sceneOf}
+use mathlib.Core.List.{List}
+use mathlib.Core.Bool.{true, false}
+use Prim.Native.Nat.{ℕ}
+use native.Mathlib.Omega.{arith}
+use Rattle.scene.specs.declared.layout.Scene.{Scene}
+use Rattle.scene.specs.Layout.{pointCount, pairCount, laidOut, arePairs, refused, sceneOf}
+use Rattle.scene.specs.Spelled.{Taken}
+use Rattle.scene.proofs.Spelling.{Bytes, taken-of}
 use Rattle.scene.proofs.layout.read.Statement.{statement}
 use Rattle.scene.proofs.layout.read.Tie as tie
+
+-- the three cases of the definition
+module _ (s : List ℕ) where
+  good-scene : (n m : ℕ) → n ≡ pointCount s → m ≡ pairCount s → laidOut s ≡ true → arePairs s n m ≡ true
+      → record { refusal = 0; points = n; pairs = m } ≡ sceneOf s
+  unfolding sceneOf
+  good-scene n m p q laid good = rw (laid, rw (p, q) at good, p, q)
+
+  bad-scene : (n m : ℕ) → n ≡ pointCount s → m ≡ pairCount s → laidOut s ≡ true → arePairs s n m ≡ false
+      → refused 11 ≡ sceneOf s
+  unfolding sceneOf
+  bad-scene n m p q laid bad = rw (laid, rw (p, q) at bad)
+
+  wrong-scene : laidOut s ≡ false → refused 10 ≡ sceneOf s
+  unfolding sceneOf
+  wrong-scene wrong = rw wrong
+
+-- the file is taken as it must be, from the equation
+both : (s : List ℕ) → Bytes s → (r : Scene) → r ≡ sceneOf s → (r ≡ sceneOf s) × Taken s r
+both s b r e = (e, rw e (taken-of s b))
+
+bytes : (c : tie.After-shared-slice-known) → Bytes (c .before .args .s .now)
+bytes c i = omega (arith, c .shared-slice-known .given i)
 
 is-laid-out-requires : tie.Need-is-laid-out-requires
 is-laid-out-requires c κs = search needs
@@ -24,28 +54,23 @@ refused-requires-2 : tie.Need-refused-requires-2
 refused-requires-2 c κs = search needs
 
 returns : tie.Need-returns
-unfolding sceneOf
 returns c =
-    let n = c .before .before .before .point-count .ensures in
-    let m = c .before .before .pair-count .ensures in
     let laid = sym (c .before .before .before .before .before .is-laid-out .ensures) ∙ c .before .before .before .before .if1 .taken in
-    let good = sym (rw (n, m) at (c .before .are-pairs .ensures)) ∙ c .if2 .taken in
-    rw (laid, good, n, m)
+    let good = sym (c .before .are-pairs .ensures) ∙ c .if2 .taken in
+    both _ (bytes (c .before .before .before .before .before .before)) _
+    (good-scene _ _ _ (c .before .before .before .point-count .ensures) (c .before .before .pair-count .ensures) laid good)
 
 returns-2 : tie.Need-returns-2
-unfolding sceneOf
 returns-2 c =
-    let n = c .before .before .before .before .point-count .ensures in
-    let m = c .before .before .before .pair-count .ensures in
     let laid = sym (c .before .before .before .before .before .before .is-laid-out .ensures) ∙ c .before .before .before .before .before .if1 .taken in
-    let bad = sym (rw (n, m) at (c .before .before .are-pairs .ensures)) ∙ c .before .if2 .left in
-    rw (laid, bad) (c .refused .ensures)
+    let bad = sym (c .before .before .are-pairs .ensures) ∙ c .before .if2 .left in
+    both _ (bytes (c .before .before .before .before .before .before .before)) _
+    (c .refused .ensures ∙ bad-scene _ _ _ (c .before .before .before .before .point-count .ensures) (c .before .before .before .pair-count .ensures) laid bad)
 
 returns-3 : tie.Need-returns-3
-unfolding sceneOf
 returns-3 c =
     let wrong = sym (c .before .before .is-laid-out .ensures) ∙ c .before .if1 .left in
-    rw wrong (c .refused2 .ensures)
+    both _ (bytes (c .before .before .before)) _ (c .refused2 .ensures ∙ wrong-scene _ wrong)
 
 pub read-spec : {M : Type 1} → statement M
 read-spec =

@@ -1,0 +1,2 @@
+-- What the proofs of `listing` share. Assumes nothing.
+mod Puts

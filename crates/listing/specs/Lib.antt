@@ -1,0 +1,3 @@
+-- What the contracts of `listing` cite. Definitions only.
+pub mod Text
+pub mod Listing

@@ -1,0 +1,36 @@
+-- A scene file as it is put together, section after section (docs/01-scope.md, "The scene file"). Definitions only.
+use Prim.Native.Nat.{ℕ, _+_, _*_, _/_, _%_, _≤_}
+use mathlib.Core.Path.{_≡_}
+use mathlib.Core.Bool.{true, false}
+use mathlib.Core.List.{List, [], _∷_, _++_}
+use lib.ListN.{length}
+use Rattle.scene.specs.declared.layout.Scene.{Scene}
+use Rattle.scene.specs.Layout.{arePairs, refused}
+
+-- a count as its four bytes, the least significant first
+unfoldable pub spell : ℕ → List ℕ
+spell n = (n % 256) ∷ (n / 256 % 256) ∷ (n / 65536 % 256) ∷ (n / 16777216 % 256) ∷ []
+
+-- The file is laid out as a scene of n points and m pairs: four sections, each after its count. Of bytes that have come
+-- so far, that they can still become such a file is `(rest : List ℕ) × Spelled (soFar ++ rest) n m`.
+pub record Spelled (file : List ℕ) (n m : ℕ) : Type 0 where
+  pub points : List ℕ
+  pub displacements : List ℕ
+  pub pairs : List ℕ
+  pub limits : List ℕ
+  pub bytes : file
+      ≡ spell n ++ (points ++ (spell n ++ (displacements ++ (spell m ++ (pairs ++ (spell 1 ++ limits))))))
+  pub few-points : n ≤ 1024
+  pub few-pairs : m ≤ 1024
+  pub points-length : length points ≡ 12 * n
+  pub displacements-length : length displacements ≡ 12 * n
+  pub pairs-length : length pairs ≡ 20 * m
+  pub limits-length : length limits ≡ 12
+
+-- What is read of a file: it is taken as a scene only if it is one of these counts; each such scene is taken; each that
+-- is laid out so and has a bad pair is refused by 11.
+pub record Taken (file : List ℕ) (r : Scene) : Type 0 where
+  pub sound : r .refusal ≡ 0 → Spelled file (r .points) (r .pairs) × (arePairs file (r .points) (r .pairs) ≡ true)
+  pub whole : (n m : ℕ) → Spelled file n m → arePairs file n m ≡ true
+      → r ≡ record { refusal = 0; points = n; pairs = m }
+  pub bad : (n m : ℕ) → Spelled file n m → arePairs file n m ≡ false → r ≡ refused 11
