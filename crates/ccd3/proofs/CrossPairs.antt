@@ -1,76 +1,108 @@
--- The cross pairs still to come in the two loops of the directional step, and what one of them does to the least time
--- (specs/Directional.antt). Assumes nothing.
-use mathlib.Core.Path.{_≡_, refl, sym, ap, _∙_}
-use mathlib.Core.Bool.{Bool, true, false, cond}
-use mathlib.Core.List.{List, [], _∷_, _++_}
-use Prim.Native.Nat.{ℕ, zero, suc, _+_, _-_, _≤_, _<_}
-use native.Mathlib.Numerals.{add-one}
-use native.Mathlib.Omega.{arith}
+-- What the cross pairs of a split make of the least time, all their tests at once (specs/Directional.antt). Assumes
+-- nothing.
+use mathlib.Core.Path.{_≡_, refl, sym}
+use mathlib.Core.Bool.{Bool, true, false, cond, _||_}
+use mathlib.Core.List.{List}
+use Prim.Native.Nat.{ℕ}
+use borrow.Author.Tests.{eq-eqb, ne-eqb}
 use lib.Ieee.{Float, le}
 use Rattle.number.specs.Number.{_⊗_, zero32}
+use Rattle.geometry.specs.Vec3.{dot}
 use Rattle.ccd3.specs.declared.Aim.{Aim}
 use Rattle.ccd3.specs.Directional.{
   Cross,
-  row,
-  rows,
+  cross,
+  edgePairs,
+  facePairs,
   crossPairs,
+  gap,
+  rel,
   projected,
-  rate,
   lessened,
   leastOver,
   directional,
   largest,
 }
 
-abbrev pub cross : ℕ → ℕ → Cross
-cross i j = record { first = i; second = j }
+-- ---- tests one after the other, and all at once
+module _ (z v : Float) where
+  three-stop : (b c d : Bool) → (b || c) || d ≡ true → z ≡ cond b z (cond c z (cond d z v))
+  three-stop true c d h = refl
+  three-stop false true d h = refl
+  three-stop false false true h = refl
+  three-stop false false false h = cc
 
--- the pairs from columns i and j on
-abbrev pub rest : ℕ → ℕ → ℕ → List Cross
-rest split i j = row i j (4 - j) ++ rows split (i + 1) (split - (i + 1))
+  three-pass : (b c d : Bool) → (b || c) || d ≡ false → v ≡ cond b z (cond c z (cond d z v))
+  three-pass true c d h = cc
+  three-pass false true d h = cc
+  three-pass false false true h = cc
+  three-pass false false false h = refl
 
-one-less : (n j : ℕ) → j < n → n - j ≡ suc (n - (j + 1))
-one-less n j h = omega arith
+  four-stop : (b c d e : Bool) → ((b || c) || d) || e ≡ true → z ≡ cond b z (cond c z (cond d z (cond e z v)))
+  four-stop true c d e h = refl
+  four-stop false c d e h = three-stop c d e h
 
-no-less : (n j : ℕ) → n ≤ j → n - j ≡ 0
-no-less n j h = omega arith
-
-pub row-next : (split i j : ℕ) → j < 4 → rest split i j ≡ cross i j ∷ rest split i (j + 1)
-unfolding row
-row-next split i j h =
-    ap (λ (n : ℕ). row i j n ++ rows split (i + 1) (split - (i + 1))) (one-less 4 j h)
-    ∙ ap (λ (k : ℕ). cross i j ∷ (row i k (4 - (j + 1)) ++ rows split (i + 1) (split - (i + 1)))) (sym (add-one j))
-
-pub row-done : (split i j : ℕ) → 4 ≤ j → rest split i j ≡ rows split (i + 1) (split - (i + 1))
-unfolding row
-row-done split i j h = ap (λ (n : ℕ). row i j n ++ rows split (i + 1) (split - (i + 1))) (no-less 4 j h)
-
-pub rows-next : (split i : ℕ) → i < split → rows split i (split - i) ≡ rest split i split
-unfolding rows
-rows-next split i h =
-    ap (rows split i) (one-less split i h)
-    ∙ ap (λ (k : ℕ). row i split (4 - split) ++ rows split k (split - (i + 1))) (sym (add-one i))
-
-pub rows-done : (split i : ℕ) → split ≤ i → rows split i (split - i) ≡ []
-unfolding rows
-rows-done split i h = ap (rows split i) (no-less split i h)
+  four-pass : (b c d e : Bool) → ((b || c) || d) || e ≡ false → v ≡ cond b z (cond c z (cond d z (cond e z v)))
+  four-pass true c d e h = cc
+  four-pass false c d e h = three-pass c d e h
 
 module _ (x dx : List (List Float)) (a : Aim) where
-  pub none-left : (least : Float) → leastOver x dx a [] least ≡ least
-  unfolding leastOver
-  none-left least = refl
+  abbrev reach : Cross → Float
+  reach p = projected a (gap x p) (rel dx p)
 
-  -- a pair as the loop meets it: its projected gap, its rate and the least time with it, by whatever they were computed
-  module _ (p : Cross) (ps : List Cross) (least reach : Float) (r : reach ≡ projected x dx a p) where
-    pub pair-stops : le reach (a .dip ⊗ a .norm) ≡ true → leastOver x dx a (p ∷ ps) least ≡ zero32
+  abbrev dipped : Float → Bool
+  dipped r = le r (a .dip ⊗ a .norm)
+
+  abbrev with-pair : Float → Float → Cross → Float
+  with-pair least r p = lessened a least r (dot (a .w) (rel dx p))
+
+  module _ (r02 r03 r12 r13 : Float) (e02 : r02 ≡ reach (cross 0 2)) (e03 : r03 ≡ reach (cross 0 3))
+      (e12 : r12 ≡ reach (cross 1 2)) (e13 : r13 ≡ reach (cross 1 3)) where
+    abbrev edges-dip : Bool
+    edges-dip = ((dipped r02 || dipped r03) || dipped r12) || dipped r13
+
+    abbrev edges-least : Float
+    edges-least =
+        with-pair (with-pair (with-pair (with-pair largest r02 (cross 0 2)) r03 (cross 0 3)) r12 (cross 1 2)) r13
+        (cross 1 3)
+
+    pub edges-stop : edges-dip ≡ true → zero32 ≡ leastOver a x dx edgePairs largest
     unfolding leastOver
-    pair-stops e = rw (sym (ap (λ (z : Float). le z (a .dip ⊗ a .norm)) r) ∙ e)
+    edges-stop h =
+        rw (← e02, ← e03, ← e12, ← e13)
+        (four-stop zero32 edges-least (dipped r02) (dipped r03) (dipped r12) (dipped r13) h)
 
-    pub pair-passes : (speed least′ : Float) → speed ≡ rate dx (a .w) p → least′ ≡ lessened a least reach speed
-        → le reach (a .dip ⊗ a .norm) ≡ false → leastOver x dx a (p ∷ ps) least ≡ leastOver x dx a ps least′
+    pub edges-pass : edges-dip ≡ false → edges-least ≡ leastOver a x dx edgePairs largest
     unfolding leastOver
-    pair-passes speed least′ s l e = rw (sym (ap (λ (z : Float). le z (a .dip ⊗ a .norm)) r) ∙ e, l, r, s)
+    edges-pass h =
+        rw (← e02, ← e03, ← e12, ← e13)
+        (four-pass zero32 edges-least (dipped r02) (dipped r03) (dipped r12) (dipped r13) h)
 
-  pub all-pairs : (split : ℕ) → leastOver x dx a (rows split 0 split) largest ≡ directional x dx split a
-  unfolding directional
-  all-pairs split = refl
+  module _ (r03 r13 r23 : Float) (e03 : r03 ≡ reach (cross 0 3)) (e13 : r13 ≡ reach (cross 1 3))
+      (e23 : r23 ≡ reach (cross 2 3)) where
+    abbrev face-dips : Bool
+    face-dips = (dipped r03 || dipped r13) || dipped r23
+
+    abbrev face-least : Float
+    face-least = with-pair (with-pair (with-pair largest r03 (cross 0 3)) r13 (cross 1 3)) r23 (cross 2 3)
+
+    pub face-stop : face-dips ≡ true → zero32 ≡ leastOver a x dx facePairs largest
+    unfolding leastOver
+    face-stop h =
+        rw (← e03, ← e13, ← e23)
+        (three-stop zero32 face-least (dipped r03) (dipped r13) (dipped r23) h)
+
+    pub face-pass : face-dips ≡ false → face-least ≡ leastOver a x dx facePairs largest
+    unfolding leastOver
+    face-pass h =
+        rw (← e03, ← e13, ← e23)
+        (three-pass zero32 face-least (dipped r03) (dipped r13) (dipped r23) h)
+
+module _ (x dx : List (List Float)) (split : ℕ) (a : Aim) where
+  pub edges-asked : split ≡ 2 → leastOver a x dx edgePairs largest ≡ directional x dx split a
+  unfolding directional crossPairs
+  edges-asked e = rw (eq-eqb split 2 e)
+
+  pub face-asked : (split ≡ 2 → ⊥) → leastOver a x dx facePairs largest ≡ directional x dx split a
+  unfolding directional crossPairs
+  face-asked n = rw (ne-eqb split 2 n)

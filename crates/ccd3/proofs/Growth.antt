@@ -23,9 +23,10 @@ use Rattle.number.proofs.Units.{Unit32, plus, of-float}
 use Rattle.number.proofs.Units.Compared.{L, Is, lt-says, says-lt, le-says}
 use Rattle.number.proofs.Ranges.{zero-to-limit, speed-range}
 use Rattle.number.proofs.Within.{Within, within-finite, within-more, add-within, sub-within, mul-within}
+use Rattle.geometry.specs.Vec3.{dot}
 use Rattle.admission.specs.declared.Limits.{Limits}
 use Rattle.ccd3.specs.declared.Aim.{Aim}
-use Rattle.ccd3.specs.Directional.{Cross, crossPairs, lessened, projected, rate, leastOver, directional, largest}
+use Rattle.ccd3.specs.Directional.{Cross, crossPairs, gap, rel, lessened, projected, leastOver, directional, largest}
 use Rattle.ccd3.specs.Step.{park, dip, plain, aim, Visit, step, next}
 use Rattle.ccd3.proofs.PlainStep.{Most, excess-plus}
 
@@ -78,15 +79,15 @@ lessened-fits a least reach speed h =
     (div-fits binary32 (larger (reach ⊖ a .park ⊗ a .norm) zero32) speed)) h
 
 least-fits : (x dx : List (List Float)) (a : Aim) (ps : List Cross) (least : Float) → T (fits binary32 least)
-    → T (fits binary32 (leastOver x dx a ps least))
+    → T (fits binary32 (leastOver a x dx ps least))
 unfolding leastOver
 least-fits x dx a [] least h = h
 least-fits x dx a (p ∷ ps) least h =
-    let least′ = lessened a least (projected x dx a p) (rate dx (a .w) p) in
-    pick-fits (le (projected x dx a p) (a .dip ⊗ a .norm)) zero32 (leastOver x dx a ps least′)
+    let reach = projected a (gap x p) (rel dx p) in
+    let speed = dot (a .w) (rel dx p) in
+    pick-fits (le reach (a .dip ⊗ a .norm)) zero32 (leastOver a x dx ps (lessened a least reach speed))
     (ofBits-fits binary32 0)
-    (least-fits x dx a ps (lessened a least (projected x dx a p) (rate dx (a .w) p))
-    (lessened-fits a least (projected x dx a p) (rate dx (a .w) p) h))
+    (least-fits x dx a ps (lessened a least reach speed) (lessened-fits a least reach speed h))
 
 directional-fits : (x dx : List (List Float)) (split : ℕ) (a : Aim) → T (fits binary32 (directional x dx split a))
 unfolding directional

@@ -1,6 +1,6 @@
 // The directional step (ccd3.rs: `directional_advance`; docs/01-scope.md, "The directional step").
 ghost use mathlib.Core.Path.{_≡_};
-ghost use Prim.Native.Nat.{_<_};
+ghost use Rattle.geometry.specs.Vec3 as Vec3;
 ghost use Rattle.ccd3.specs.Directional as Def;
 use crate::Aim;
 use geometry::vec3::dot;
@@ -23,39 +23,33 @@ fn sizes(v: [f32; 3]) -> [f32; 3]
     [size(v[0]), size(v[1]), size(v[2])]
 }
 
-// The gap from column i to column j along the direction, less what rounding may have added to it.
-fn projected(x: [[f32; 3]; 4], dx: [[f32; 3]; 4], a: Aim, i: usize, j: usize) -> f32
-    requires { ⌜ (i < 4) × (j < 4) ⌝ }
-    ensures { λ r. ⌜ r ≡ Def.projected x dx a (record { first = i; second = j }) ⌝ }
+// |a| · |b|
+fn dot_of_sizes(a: [f32; 3], b: [f32; 3]) -> f32
+    ensures { λ r. ⌜ r ≡ Vec3.dot (Def.sizes a) (Def.sizes b) ⌝ }
+{
+    dot(sizes(a), sizes(b))
+}
+
+// The gap from one column to another along the direction, less what rounding may have added to it. The columns stand
+// at `from` and `to` and are displaced by `first` and `second`.
+fn projected(from: [f32; 3], to: [f32; 3], first: [f32; 3], second: [f32; 3], a: Aim) -> f32
+    ensures { λ r. ⌜ r ≡ Def.projected a (Vec3.minus to from) (Vec3.minus first second) ⌝ }
 {
     let w = a.w;
-    let from = x[i];
-    let to = x[j];
     let gap = sub(to, from);
-    let first = dx[i];
-    let second = dx[j];
     let rel = sub(first, second);
-    let w_sizes = sizes(w);
     let err = ROUND_SLACK
-        * (dot(w_sizes, sizes(gap)) + a.max_t * dot(w_sizes, sizes(rel)) + a.park * a.norm)
+        * (dot_of_sizes(w, gap) + a.max_t * dot_of_sizes(w, rel) + a.park * a.norm)
         + COORD_SLACK * a.norm;
     dot(w, gap) - err
 }
 
-// How fast column i closes in on column j along the direction.
-fn rate(dx: [[f32; 3]; 4], w: [f32; 3], i: usize, j: usize) -> f32
-    requires { ⌜ (i < 4) × (j < 4) ⌝ }
-    ensures { λ r. ⌜ r ≡ Def.rate dx w (record { first = i; second = j }) ⌝ }
+// The least time so far, with that of columns that are displaced by `first` and `second` and close in from `reach`.
+fn lessened(least: f32, reach: f32, first: [f32; 3], second: [f32; 3], a: Aim) -> f32
+    ensures { λ r. ⌜ r ≡ Def.lessened a least reach (Vec3.dot (a .w) (Vec3.minus first second)) ⌝ }
 {
-    let first = dx[i];
-    let second = dx[j];
-    dot(w, sub(first, second))
-}
-
-// The least time so far, with that of a pair that closes in from `reach` at `speed`.
-fn lessened(least: f32, reach: f32, speed: f32, a: Aim) -> f32
-    ensures { λ r. ⌜ r ≡ Def.lessened a least reach speed ⌝ }
-{
+    let w = a.w;
+    let speed = dot(w, sub(first, second));
     if 0.0 < speed {
         smaller(least, larger(reach - a.park * a.norm, 0.0) / speed)
     } else {
@@ -63,26 +57,65 @@ fn lessened(least: f32, reach: f32, speed: f32, a: Aim) -> f32
     }
 }
 
-// The longest step in which no column of one side can come near one of the other along the direction. The first pair
-// that is not beyond dip ends both loops at once with 0.
+// Of two edges. What each pair of columns leaves is computed before the first test: a compiler then computes all of
+// them at once.
+fn between_edges(x: [[f32; 3]; 4], dx: [[f32; 3]; 4], a: Aim) -> f32
+    ensures { λ r. ⌜ r ≡ Def.leastOver a x dx Def.edgePairs Def.largest ⌝ }
+{
+    let x0 = x[0];
+    let x1 = x[1];
+    let x2 = x[2];
+    let x3 = x[3];
+    let d0 = dx[0];
+    let d1 = dx[1];
+    let d2 = dx[2];
+    let d3 = dx[3];
+    let r02 = projected(x0, x2, d0, d2, a);
+    let r03 = projected(x0, x3, d0, d3, a);
+    let r12 = projected(x1, x2, d1, d2, a);
+    let r13 = projected(x1, x3, d1, d3, a);
+    let dip = a.dip * a.norm;
+    if (r02 <= dip) | (r03 <= dip) | (r12 <= dip) | (r13 <= dip) {
+        return 0.0;
+    }
+    let s02 = lessened(LARGEST, r02, d0, d2, a);
+    let s03 = lessened(s02, r03, d0, d3, a);
+    let s12 = lessened(s03, r12, d1, d2, a);
+    lessened(s12, r13, d1, d3, a)
+}
+
+// Of a face and a vertex.
+fn face_to_vertex(x: [[f32; 3]; 4], dx: [[f32; 3]; 4], a: Aim) -> f32
+    ensures { λ r. ⌜ r ≡ Def.leastOver a x dx Def.facePairs Def.largest ⌝ }
+{
+    let x0 = x[0];
+    let x1 = x[1];
+    let x2 = x[2];
+    let x3 = x[3];
+    let d0 = dx[0];
+    let d1 = dx[1];
+    let d2 = dx[2];
+    let d3 = dx[3];
+    let r03 = projected(x0, x3, d0, d3, a);
+    let r13 = projected(x1, x3, d1, d3, a);
+    let r23 = projected(x2, x3, d2, d3, a);
+    let dip = a.dip * a.norm;
+    if (r03 <= dip) | (r13 <= dip) | (r23 <= dip) {
+        return 0.0;
+    }
+    let s03 = lessened(LARGEST, r03, d0, d3, a);
+    let s13 = lessened(s03, r13, d1, d3, a);
+    lessened(s13, r23, d2, d3, a)
+}
+
+// The longest step in which no column of one side can come near one of the other along the direction: 0 where some
+// pair of columns is not beyond dip.
 pub fn directional_advance(x: [[f32; 3]; 4], dx: [[f32; 3]; 4], split: usize, a: Aim) -> f32
     ensures { λ r. ⌜ r ≡ Def.directional x dx split a ⌝ }
 {
-    let w = a.w;
-    let mut step = LARGEST;
-    let mut i = 0;
-    'sides: while i < split {
-        let mut j = split;
-        while j < 4 {
-            let reach = projected(x, dx, a, i, j);
-            if reach <= a.dip * a.norm {
-                step = 0.0;
-                break 'sides;
-            }
-            step = lessened(step, reach, rate(dx, w, i, j), a);
-            j += 1;
-        }
-        i += 1;
+    if split == 2 {
+        between_edges(x, dx, a)
+    } else {
+        face_to_vertex(x, dx, a)
     }
-    step
 }

@@ -17,27 +17,26 @@ struct Whole {
 }
 
 // An estimate of the 24 digits of the root of the f32 with the pattern b, from 1 to below 4: a first guess from the
-// pattern, two steps of Newton's for its inverse root, one for the root. Whatever comes out is mended by `whole_root`.
+// pattern, a step of Halley's, one of Heron's. Twice the root has the same digits, so it is not halved. Whatever comes
+// out is mended by `whole_root`.
 fn estimate(b: u32) -> u64
     requires { ⌜ b < 0x7f80_0000 ⌝ }
     ensures { λ g. ⌜ g < 2 ^ 24 ⌝ }
 {
     let x = f32::from_bits(b) as f64;
-    let y0 = f32::from_bits(0x5f37_59df - (b >> 1)) as f64;
-    let h = 0.5 * x;
-    let y1 = y0 * (1.5 - h * y0 * y0);
-    let y2 = y1 * (1.5 - h * y1 * y1);
-    let s0 = x * y2;
-    let s = s0 + 0.5 * y2 * (x - s0 * s0);
-    if (1.0 <= s) & (s < 2.0) {
-        0x80_0000 + ((f64::to_bits(s) << 12) >> 41)
+    let s0 = f32::from_bits(0x1fbd_1df5 + (b >> 1)) as f64;
+    let q = s0 * s0;
+    let s1 = s0 * (q + 3.0 * x) / (3.0 * q + x);
+    let twice = s1 + x / s1;
+    if 2.0 <= twice {
+        0x80_0000 + ((f64::to_bits(twice) << 12) >> 41)
     } else {
         0x80_0000
     }
 }
 
 // n is root * root + rest, and rest is at most twice root: found from any guess, in few turns from a near one.
-fn whole_root(n: u64, guess: u64) -> Whole
+fn mended(n: u64, guess: u64) -> Whole
     requires { ⌜ (n < 2 ^ 48) × (guess < 2 ^ 24) ⌝ }
     ensures { λ w. ⌜ (w .root * w .root + w .rest ≡ n) × (w .rest ≤ 2 * w .root) ⌝ }
 {
@@ -51,6 +50,21 @@ fn whole_root(n: u64, guess: u64) -> Whole
         root += 1;
     }
     Whole { root, rest }
+}
+
+// The same: the guess itself where it is right, as it nearly always is.
+fn whole_root(n: u64, guess: u64) -> Whole
+    requires { ⌜ (n < 2 ^ 48) × (guess < 2 ^ 24) ⌝ }
+    ensures { λ w. ⌜ (w .root * w .root + w .rest ≡ n) × (w .rest ≤ 2 * w .root) ⌝ }
+{
+    let square = guess * guess;
+    if square <= n {
+        let rest = n - square;
+        if rest <= guess << 1 {
+            return Whole { root: guess, rest };
+        }
+    }
+    mended(n, guess)
 }
 
 // The pattern of the f32 nearest to the root of p * 2 ^ (k - 173), for a p of 24 digits.

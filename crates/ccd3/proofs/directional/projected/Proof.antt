@@ -8,20 +8,15 @@ returns : tie.Need-returns
 unfolding projected
 returns c =
     rw (
-      c .dot3 .ensures,
-      c .before .before .before .before .dot2 .ensures,
-      c .before .before .before .before .before .before .dot .ensures,
-      c .before .before .before .before .before .sizes3 .ensures,
-      c .before .before .before .before .before .before .before .sizes2 .ensures,
-      c .before .before .before .before .before .before .before .before .sizes .ensures,
-      c .before .before .before .before .before .before .before .before .before .sub2 .ensures,
-      c .before .before .before .before .before .before .before .before .before .before .before .before .sub .ensures,
+      c .dot .ensures,
+      c .before .before .before .before .dot-of-sizes2 .ensures,
+      c .before .before .before .before .before .dot-of-sizes .ensures,
+      c .before .before .before .before .before .before .sub2 .ensures,
+      c .before .before .before .before .before .before .before .sub .ensures,
     )
 
 pub projected-spec : {M : Type 1} → statement M
 projected-spec =
     tie.close
-    (tie.spec (λ c. search needs) (λ c. search needs) (λ c. search needs) (λ c. search needs) (λ c κs. search needs)
-    (λ c. search needs) (λ c. search needs) (λ c. search needs) (λ c. search needs) (λ c κs. search needs)
-    (λ c κs. search needs) (λ c κs. search needs) (λ c κs. search needs) (λ c κs. search needs)
-    (λ c κs. search needs) (λ c κs. search needs) returns)
+    (tie.spec (λ c κs. search needs) (λ c κs. search needs) (λ c κs. search needs) (λ c κs. search needs)
+    (λ c κs. search needs) returns)

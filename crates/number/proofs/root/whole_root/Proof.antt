@@ -1,89 +1,12 @@
--- `number::root::whole_root` meets its contract. The first loop brings the guess down to where its square is not above
--- n (measure: the guess); the second keeps n split into a square and a rest (measure: the rest). Assumes nothing.
-use mathlib.Core.Path.{_≡_}
-use Prim.Native.Nat.{_+_, _*_, _^_, _<_}
+-- `number::root::whole_root` meets its contract, whether or not the guess is right. Assumes nothing.
 use native.Mathlib.Omega.{arith}
-use Rattle.number.proofs.SquareRoot.Whole.{square-lt, square-some, turn}
+use borrow.Author.Needs.{needs}
+use Rattle.number.proofs.SquareRoot.Whole.{square-lt}
 use Rattle.number.proofs.root.whole_root.Statement.{statement}
 use Rattle.number.proofs.root.whole_root.Tie as tie
 
-abbrev Inv-loop : tie.InvT-loop
-Inv-loop n guess root₀ root = root < 2 ^ 24
-
-abbrev μ-loop : tie.MeasureT-loop
-μ-loop n guess root₀ root = root
-
-abbrev Inv-loop2 : tie.InvT-loop2
-Inv-loop2 n guess root₀ rest₀ root rest = (root * root + rest ≡ n) × (root < 2 ^ 24)
-
-abbrev μ-loop2 : tie.MeasureT-loop2
-μ-loop2 n guess root₀ rest₀ root rest = rest
-
-loop-holds : tie.Need-loop-holds Inv-loop μ-loop Inv-loop2 μ-loop2
-loop-holds c = omega arith
-
-mul-loop : tie.Need-mul-loop Inv-loop μ-loop Inv-loop2 μ-loop2
-mul-loop c = omega (arith, square-lt (c .loop .root) (c .loop .inv))
-
-sub-root : tie.Need-sub-root Inv-loop μ-loop Inv-loop2 μ-loop2
-sub-root c = square-some (c .before .before .args .n) (c .before .loop .root) (c .loop-test .taken)
-
-loop-less : tie.Need-loop-less Inv-loop μ-loop Inv-loop2 μ-loop2
-loop-less c = omega (arith, square-some (c .before .before .args .n) (c .before .loop .root) (c .loop-test .taken))
-
-loop-again : tie.Need-loop-again Inv-loop μ-loop Inv-loop2 μ-loop2
-loop-again c = omega arith
-
-mul-rest : tie.Need-mul-rest Inv-loop μ-loop Inv-loop2 μ-loop2
-mul-rest c = omega (arith, square-lt (c .before .loop .root) (c .before .loop .inv))
-
-sub-rest : tie.Need-sub-rest Inv-loop μ-loop Inv-loop2 μ-loop2
-sub-rest c = omega arith
-
-loop2-holds : tie.Need-loop2-holds Inv-loop μ-loop Inv-loop2 μ-loop2
-loop2-holds c = (omega arith, omega arith)
-
-add-rest : tie.Need-add-rest Inv-loop μ-loop Inv-loop2 μ-loop2
-add-rest c = omega arith
-
-sub-rest-2 : tie.Need-sub-rest-2 Inv-loop μ-loop Inv-loop2 μ-loop2
-sub-rest-2 c = omega arith
-
-add-root : tie.Need-add-root Inv-loop μ-loop Inv-loop2 μ-loop2
-add-root c = omega arith
-
-loop2-less : tie.Need-loop2-less Inv-loop μ-loop Inv-loop2 μ-loop2
-loop2-less c = omega arith
-
-loop2-again : tie.Need-loop2-again Inv-loop μ-loop Inv-loop2 μ-loop2
-loop2-again c =
-    let at = c .before in
-    turn (at .before .before .before .args .n) (at .loop2 .root) (at .loop2 .rest)
-    (at .before .before .before .pre .0)
-    (at .loop2 .inv .0) (at .loop2 .inv .1) (c .loop2-test .taken)
-
-returns : tie.Need-returns Inv-loop μ-loop Inv-loop2 μ-loop2
-returns c = (omega arith, omega arith)
+mul-square : tie.Need-mul-square
+mul-square c = omega (arith, square-lt (c .args .guess) (c .pre .1))
 
 pub whole-root-spec : {M : Type 1} → statement M
-whole-root-spec =
-    tie.close
-    (tie.spec
-    Inv-loop
-    μ-loop
-    Inv-loop2
-    μ-loop2
-    loop-holds
-    mul-loop
-    sub-root
-    loop-less
-    loop-again
-    mul-rest
-    sub-rest
-    loop2-holds
-    add-rest
-    sub-rest-2
-    add-root
-    loop2-less
-    loop2-again
-    returns)
+whole-root-spec = tie.close (tie.spec mul-square (λ c. search needs) (λ c κs. search needs) (λ c. search needs))
