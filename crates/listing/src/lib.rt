@@ -36,7 +36,8 @@ fn put_head(out: &mut [u8], pairs: u32) -> usize
 // The first line and the lines of the pairs.
 fn put_pairs(s: &[u8], pairs: u32, out: &mut [u8]) -> usize
     requires { ⌜ pairs ≤ 1024 ⌝ }
-    ensures { λ r. ⌜ Put (now (out .entry)) 0 (Def.head pairs ++ Def.lines (now (s .entry)) pairs) (now (out .exit)) r × (r ≤ 65536) ⌝ }
+    ensures { λ r. ⌜ Put (now (out .entry)) 0 (Def.head pairs ++ Def.lines (now (s .entry)) pairs)
+        (now (out .exit)) r × (r ≤ 65536) ⌝ }
 {
     let mut at = put_head(out, pairs);
     let mut i: u32 = 0;

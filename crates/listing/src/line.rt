@@ -38,7 +38,8 @@ fn put_time(out: &mut [u8], at: usize, t: f32, probes: u32, halvings: u32) -> us
 // The word of a kind and what follows it.
 fn put_timed(out: &mut [u8], at: usize, kind: &[u8], t: f32, probes: u32, halvings: u32) -> usize
     requires { ⌜ (at < 0x800_0000) × (length (now kind) ≤ 10) ⌝ }
-    ensures { λ r. ⌜ Put (now (out .entry)) at (now (kind .entry) ++ Def.timeText t probes halvings) (now (out .exit)) r × (r ≤ at + 40) ⌝ }
+    ensures { λ r. ⌜ Put (now (out .entry)) at (now (kind .entry) ++ Def.timeText t probes halvings)
+        (now (out .exit)) r × (r ≤ at + 40) ⌝ }
 {
     let a = put_text(out, at, kind);
     put_time(out, a, t, probes, halvings)
@@ -47,7 +48,8 @@ fn put_timed(out: &mut [u8], at: usize, kind: &[u8], t: f32, probes: u32, halvin
 // The answer: a time of its kind, or a refusal.
 fn put_answer(out: &mut [u8], at: usize, answer: Answer, probes: u32, halvings: u32) -> usize
     requires { ⌜ at < 0x800_0000 ⌝ }
-    ensures { λ r. ⌜ Put (now (out .entry)) at (Def.answerText answer probes halvings) (now (out .exit)) r × (r ≤ at + 40) ⌝ }
+    ensures { λ r. ⌜ Put (now (out .entry)) at (Def.answerText answer probes halvings)
+        (now (out .exit)) r × (r ≤ at + 40) ⌝ }
 {
     match answer {
         Answer::Touching(t) => put_timed(out, at, b" touching ", t, probes, halvings),

@@ -15,7 +15,8 @@ use lib.ListN.{length, getD, take, drop, length-append, length-drop, take-append
 use lib.Seq.{drop-cons, drop-drop, getD-append-seam, getD-append-add, length-take-le}
 use Rattle.scene.specs.declared.layout.Scene.{Scene}
 use Rattle.scene.specs.Words.{word}
-use Rattle.scene.specs.Layout.{displacementsAt, pairsAt, limitsAt, pointCount, pairCount, laidOut, arePairs, refused, sceneOf}
+use Rattle.scene.specs.Layout.{displacementsAt, pairsAt, limitsAt, pointCount, pairCount}
+use Rattle.scene.specs.Layout.{laidOut, arePairs, refused, sceneOf}
 use Rattle.scene.specs.Spelled.{spell, Spelled, Taken}
 
 -- each element of the list is a byte
@@ -90,7 +91,8 @@ unfolding word
 spell-dropped s b i h =
     four-dropped s i h
     ∙ ap (λ (l : List ℕ). l ++ drop (i + 4) s)
-    (sym (spelled-word (getD s i 0) (getD s (i + 1) 0) (getD s (i + 2) 0) (getD s (i + 3) 0) (b i) (b (i + 1)) (b (i + 2)) (b (i + 3))))
+    (sym (spelled-word (getD s i 0) (getD s (i + 1) 0) (getD s (i + 2) 0) (getD s (i + 3) 0)
+    (b i) (b (i + 1)) (b (i + 2)) (b (i + 3))))
 
 -- k bytes from place i on, and the rest
 cut : (s : List ℕ) (i k : ℕ) → drop i s ≡ take k (drop i s) ++ drop (i + k) s
@@ -199,7 +201,8 @@ module _ (s : List ℕ) (n m : ℕ) (x : Spelled s n m) where
   fourth-count : word s (limitsAt n m) ≡ 1
   fourth-count =
       rw (x .bytes, ← group₆ (spell n) (x .points) (spell n) (x .displacements) (spell m) (x .pairs) _)
-      (word-spelled (spell n ++ x .points ++ spell n ++ x .displacements ++ spell m ++ x .pairs) _ 1 (limitsAt n m) (omega arith)
+      (word-spelled (spell n ++ x .points ++ spell n ++ x .displacements ++ spell m ++ x .pairs) _ 1 (limitsAt n m)
+      (omega arith)
       (simp (length-append, spell-length) (omega arith)))
 
   length-is : length s ≡ limitsAt n m + 16

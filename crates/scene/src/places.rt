@@ -40,7 +40,8 @@ pub fn pair_count(s: &[u8]) -> u32
 
 // Where the limits stand.
 pub fn limits_at(s: &[u8]) -> usize
-    ensures { λ r. ⌜ (r ≡ Def.limitsAt (Def.pointCount (now (s .entry))) (Def.pairCount (now (s .entry)))) × (r < 0x40_0000_0000) ⌝ }
+    ensures { λ r. ⌜ (r ≡ Def.limitsAt (Def.pointCount (now (s .entry))) (Def.pairCount (now (s .entry))))
+        × (r < 0x40_0000_0000) ⌝ }
 {
     pair_at(point_count(s), pair_count(s))
 }

@@ -41,10 +41,11 @@ same-length c = search needs
 
 returns : tie.Need-returns
 returns c =
-    let read = c .before .before .before .before .before .before in (
-      as-text (lists _ (read .read .result) (read .read .ensures .0) (c .before .before .before .before .if1 .taken))
-          (c .before .before .put-pairs .ensures .0),
-      c .before .before .put-pairs .ensures .1,
+    let put = c .before .before in
+    let taken = put .before .before in
+    let read = taken .before .before .read in (
+      as-text (lists _ (read .result) (read .ensures .0) (taken .if1 .taken)) (put .put-pairs .ensures .0),
+      put .put-pairs .ensures .1,
     )
 
 same-length-2 : tie.Need-same-length-2
@@ -52,9 +53,10 @@ same-length-2 c = search needs
 
 returns-2 : tie.Need-returns-2
 returns-2 c =
-    let read = c .before .before .before .before .before .before in (
-      as-text (refusal-listed _ (read .read .result) (read .read .ensures .0) (c .before .before .before .before .if1 .left))
-          (c .before .before .put-refused .ensures .0),
+    let put = c .before .before in
+    let left = put .before .before in
+    let read = left .before .before .read in (
+      as-text (refusal-listed _ (read .result) (read .ensures .0) (left .if1 .left)) (put .put-refused .ensures .0),
       search needs,
     )
 

@@ -46,19 +46,24 @@ loop-less c = search needs
 
 loop-again : tie.Need-loop-again Inv-loop μ-loop
 loop-again c =
-    let head = c .before .before .before .before .before .before .before .before .before in
-    let s = head .before .before .before .before .args .s .now in
-    let i = c .before .before .before .before .before .before .loop .i in
-    let put = rw (c .before .before .before .safe-time .ensures) at (c .before .before .put-line .ensures .0) in
-    (search needs, search needs, as-text (one-more s i) (and-then (c .before .before .before .before .before .before .loop .inv .2) put))
+    let line = c .before .before in
+    let loop = line .before .before .before .before in
+    let start = loop .before .before .before .before .before .before .before in
+    let put = rw (line .before .safe-time .ensures) at (line .put-line .ensures .0) in
+    (search needs, search needs, as-text (one-more (start .args .s .now) _) (and-then (loop .loop .inv .2) put))
+
+-- what the function was handed
+abbrev start : tie.After-loop Inv-loop μ-loop → tie.Start Inv-loop μ-loop
+start c = c .before .before .before .before .before .before .before .before
 
 -- the first line and those of the pairs
 all : (c : tie.After-loop Inv-loop μ-loop)
-    → Put (c .before .before .before .before .before .before .before .before .args .out .now) 0 (head (c .before .before .before .before .before .before .before .before .args .pairs) ++ lines (c .before .before .before .before .before .before .before .before .args .s .now) (c .before .before .before .before .before .before .before .before .args .pairs))
+    → Put (start c .args .out .now) 0 (head (start c .args .pairs) ++ lines (start c .args .s .now) (start c .args .pairs))
     (c .before .loop .out) (c .before .loop .at)
 all c =
+    let first = c .before .before .before .before in
     let end = le-antisymm (c .before .loop .inv .0) (c .loop-test .left) in
-    and-then (c .before .before .before .before .put-head .ensures .0) (as-text (ap (lines (c .before .before .before .before .before .before .before .before .args .s .now)) end) (c .before .loop .inv .2))
+    and-then (first .put-head .ensures .0) (as-text (ap (lines (start c .args .s .now)) end) (c .before .loop .inv .2))
 
 same-length : tie.Need-same-length Inv-loop μ-loop
 same-length c = keeps-length (all c)

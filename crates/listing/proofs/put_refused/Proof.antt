@@ -21,7 +21,14 @@ same-length c = search needs
 
 returns : tie.Need-returns
 returns c =
-    (and-then (and-then (c .before .before .before .before .before .before .before .before .before .before .put-text .ensures) (c .before .before .before .before .before .before .put-decimal .ensures .0)) (c .before .before .put .ensures .0), search needs)
+    let end = c .before .before in
+    let number = end .before .before .before .before in
+    let word = number .before .before .before .before in (
+      and-then (and-then (word .put-text .ensures)
+          (number .put-decimal .ensures .0))
+          (end .put .ensures .0),
+      search needs,
+    )
 
 pub put-refused-spec : {M : Type 1} → statement M
 put-refused-spec =

@@ -15,7 +15,9 @@ unfolding toBits
 nan-bits = refl
 
 returns : tie.Need-returns
-returns c = sym (ap (toBits binary32) (differs-from-itself (c .before .args .t) (subst T (sym (c .if1 .taken)) tt)) ∙ nan-bits)
+returns c =
+    let is-nan = differs-from-itself (c .before .args .t) (subst T (sym (c .if1 .taken)) tt) in
+    sym (ap (toBits binary32) is-nan ∙ nan-bits)
 
 float-to-bits-result : tie.Need-float-to-bits-result
 float-to-bits-result c = no-nan-ne (c .before .args .t) (c .if1 .left)

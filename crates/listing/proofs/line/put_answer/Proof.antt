@@ -58,36 +58,47 @@ same-length c = search needs
 
 returns : tie.Need-returns
 unfolding answerText
-returns c = rw (c .before .before .before .before .before .before .answer .given .1) (c .before .before .put-timed .ensures)
+returns c =
+    let timed = c .before .before in
+    rw (timed .before .before .before .before .answer .given .1) (timed .put-timed .ensures)
 
 same-length-2 : tie.Need-same-length-2
 same-length-2 c = search needs
 
 returns-2 : tie.Need-returns-2
 unfolding answerText
-returns-2 c = rw (c .before .before .before .before .before .before .answer2 .given .1) (c .before .before .put-timed2 .ensures)
+returns-2 c =
+    let timed = c .before .before in
+    rw (timed .before .before .before .before .answer2 .given .1) (timed .put-timed2 .ensures)
 
 same-length-3 : tie.Need-same-length-3
 same-length-3 c = search needs
 
 returns-3 : tie.Need-returns-3
 unfolding answerText
-returns-3 c = rw (c .before .before .before .before .before .before .answer3 .given .1) (c .before .before .put-timed3 .ensures)
+returns-3 c =
+    let timed = c .before .before in
+    rw (timed .before .before .before .before .answer3 .given .1) (timed .put-timed3 .ensures)
 
 same-length-4 : tie.Need-same-length-4
 same-length-4 c = search needs
 
 returns-4 : tie.Need-returns-4
 unfolding answerText
-returns-4 c = rw (c .before .before .before .before .before .before .answer4 .given .1) (c .before .before .put-timed4 .ensures)
+returns-4 c =
+    let timed = c .before .before in
+    rw (timed .before .before .before .before .answer4 .given .1) (timed .put-timed4 .ensures)
 
 same-length-5 : tie.Need-same-length-5
 same-length-5 c = search needs
 
 returns-5 : tie.Need-returns-5
 unfolding answerText
-returns-5 c = 
-    rw (c .before .before .before .before .before .before .before .before .before .before .answer5 .given .1) (and-then (c .before .before .before .before .before .before .put-text .ensures) (c .before .before .put-decimal .ensures .0), search needs)
+returns-5 c =
+    let number = c .before .before in
+    let word = number .before .before .before .before in
+    rw (word .before .before .before .before .answer5 .given .1)
+    (and-then (word .put-text .ensures) (number .put-decimal .ensures .0), search needs)
 
 pub put-answer-spec : {M : Type 1} → statement M
 put-answer-spec =

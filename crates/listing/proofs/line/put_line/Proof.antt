@@ -20,7 +20,14 @@ same-length c = search needs
 returns : tie.Need-returns
 unfolding line
 returns c =
-    (and-then (and-then (c .before .before .before .before .before .before .before .before .before .before .put-decimal .ensures .0) (c .before .before .before .before .before .before .put-answer .ensures .0)) (c .before .before .put .ensures .0), search needs)
+    let end = c .before .before in
+    let answer = end .before .before .before .before in
+    let number = answer .before .before .before .before in (
+      and-then (and-then (number .put-decimal .ensures .0)
+          (answer .put-answer .ensures .0))
+          (end .put .ensures .0),
+      search needs,
+    )
 
 pub put-line-spec : {M : Type 1} → statement M
 put-line-spec =

@@ -29,8 +29,19 @@ same-length c = search needs
 returns : tie.Need-returns
 unfolding timeText
 returns c =
-    let bits = rw (c .before .before .before .before .before .before .before .before .before .before .before .before .before .before .before .before .before .before .before .bits-of .ensures) at (c .before .before .before .before .before .before .before .before .before .before .before .before .before .before .before .before .before .before .put-hex .ensures .0) in
-    (and-then (and-then (and-then (and-then bits (c .before .before .before .before .before .before .before .before .before .before .before .before .before .before .put .ensures .0)) (c .before .before .before .before .before .before .before .before .before .before .put-decimal .ensures .0)) (c .before .before .before .before .before .before .put2 .ensures .0)) (c .before .before .put-decimal2 .ensures .0), search needs)
+    let halvings = c .before .before in
+    let gap = halvings .before .before .before .before in
+    let probes = gap .before .before .before .before in
+    let first-gap = probes .before .before .before .before in
+    let time = first-gap .before .before .before .before in
+    let bits = rw (time .before .bits-of .ensures) at (time .put-hex .ensures .0) in (
+      and-then (and-then (and-then (and-then bits
+          (first-gap .put .ensures .0))
+          (probes .put-decimal .ensures .0))
+          (gap .put2 .ensures .0))
+          (halvings .put-decimal2 .ensures .0),
+      search needs,
+    )
 
 pub put-time-spec : {M : Type 1} → statement M
 put-time-spec =

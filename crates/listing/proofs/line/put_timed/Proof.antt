@@ -14,7 +14,13 @@ same-length : tie.Need-same-length
 same-length c = search needs
 
 returns : tie.Need-returns
-returns c = (and-then (c .before .before .before .before .before .before .put-text .ensures) (c .before .before .put-time .ensures .0), search needs)
+returns c =
+    let time = c .before .before in
+    let kind = time .before .before .before .before in (
+      and-then (kind .put-text .ensures)
+          (time .put-time .ensures .0),
+      search needs,
+    )
 
 pub put-timed-spec : {M : Type 1} → statement M
 put-timed-spec = tie.close (tie.spec put-text-requires put-time-requires same-length returns)

@@ -18,7 +18,9 @@ slice-write-out c = search needs
 add-result : tie.Need-add-result
 add-result c = search needs
 
-written : (c : tie.Joined1) → Put (c .before .args .out .now) (c .before .args .at) (c .before .args .b ∷ []) (c .if1 .out) (c .before .args .at + 1)
+written : (c : tie.Joined1)
+    → Put (c .before .args .out .now) (c .before .args .at) (c .before .args .b ∷ []) (c .if1 .out)
+    (c .before .args .at + 1)
 written c = record {
   wrote =
       ⊎-elim (λ w. w .1)

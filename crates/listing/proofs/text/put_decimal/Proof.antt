@@ -32,8 +32,21 @@ same-length c = search needs
 returns : tie.Need-returns
 unfolding decimal
 returns c =
-    let last = rw (c .before .before .before .digit .ensures) at (c .before .before .put .ensures .0) in
-    (and-then (and-then (and-then (and-then (and-then (c .before .before .before .before .before .before .before .before .before .before .before .before .before .before .before .before .before .before .before .before .before .before .before .put-upper .ensures .0) (c .before .before .before .before .before .before .before .before .before .before .before .before .before .before .before .before .before .before .before .put-place .ensures .0)) (c .before .before .before .before .before .before .before .before .before .before .before .before .before .before .before .put-place2 .ensures .0)) (c .before .before .before .before .before .before .before .before .before .before .before .put-place3 .ensures .0)) (c .before .before .before .before .before .before .before .put-place4 .ensures .0)) last, search needs)
+    let last = c .before .before in
+    let tens = last .before .before .before .before .before in
+    let hundreds = tens .before .before .before .before in
+    let thousands = hundreds .before .before .before .before in
+    let next = thousands .before .before .before .before in
+    let upper = next .before .before .before .before in
+    let digit = rw (last .before .digit .ensures) at (last .put .ensures .0) in (
+      and-then (and-then (and-then (and-then (and-then (upper .put-upper .ensures .0)
+          (next .put-place .ensures .0))
+          (thousands .put-place2 .ensures .0))
+          (hundreds .put-place3 .ensures .0))
+          (tens .put-place4 .ensures .0))
+          digit,
+      search needs,
+    )
 
 pub put-decimal-spec : {M : Type 1} → statement M
 put-decimal-spec =

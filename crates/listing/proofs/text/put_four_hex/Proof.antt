@@ -23,7 +23,16 @@ same-length c = search needs
 returns : tie.Need-returns
 unfolding fourHex
 returns c =
-    (and-then (and-then (and-then (c .before .before .before .before .before .before .before .before .before .before .before .before .before .before .put-glyph .ensures .0) (c .before .before .before .before .before .before .before .before .before .before .put-glyph2 .ensures .0)) (c .before .before .before .before .before .before .put-glyph3 .ensures .0)) (c .before .before .put-glyph4 .ensures .0), search needs)
+    let fourth = c .before .before in
+    let third = fourth .before .before .before .before in
+    let second = third .before .before .before .before in
+    let first = second .before .before .before .before in (
+      and-then (and-then (and-then (first .put-glyph .ensures .0)
+          (second .put-glyph2 .ensures .0))
+          (third .put-glyph3 .ensures .0))
+          (fourth .put-glyph4 .ensures .0),
+      search needs,
+    )
 
 pub put-four-hex-spec : {M : Type 1} → statement M
 put-four-hex-spec =

@@ -17,7 +17,12 @@ same-length c = search needs
 returns : tie.Need-returns
 unfolding hex
 returns c =
-    (and-then (c .before .before .before .before .before .before .put-four-hex .ensures .0) (c .before .before .put-four-hex2 .ensures .0), search needs)
+    let low = c .before .before in
+    let high = low .before .before .before .before in (
+      and-then (high .put-four-hex .ensures .0)
+          (low .put-four-hex2 .ensures .0),
+      search needs,
+    )
 
 pub put-hex-spec : {M : Type 1} → statement M
 put-hex-spec =

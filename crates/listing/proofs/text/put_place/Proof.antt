@@ -24,7 +24,9 @@ same-length c = search needs
 
 returns-2 : tie.Need-returns-2
 unfolding digitAt
-returns-2 c = rw (le-ltb _ _ (c .before .before .before .before .before .if1 .left), ← c .before .before .before .digit .ensures) (c .before .before .put .ensures)
+returns-2 c =
+    let put = c .before .before in
+    rw (le-ltb _ _ (put .before .before .before .if1 .left), ← put .before .digit .ensures) (put .put .ensures)
 
 pub put-place-spec : {M : Type 1} → statement M
 put-place-spec =

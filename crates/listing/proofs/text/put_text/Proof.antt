@@ -40,9 +40,8 @@ loop-less c = search needs
 loop-again : tie.Need-loop-again Inv-loop μ-loop
 loop-again c =
     let turn = c .before .before .before .before .before in
-    let i = turn .before .loop .i in
-    let text = turn .before .before .before .before .args .text .now in
-    (search needs, search needs, as-text (one-more text i (turn .loop-test .taken)) (and-then (turn .before .loop .inv .2) (c .before .before .put .ensures .0)))
+    let more = one-more (turn .before .before .before .before .args .text .now) _ (turn .loop-test .taken) in
+    (search needs, search needs, as-text more (and-then (turn .before .loop .inv .2) (c .before .before .put .ensures .0)))
 
 same-length : tie.Need-same-length Inv-loop μ-loop
 same-length c = keeps-length (c .before .loop .inv .2)

@@ -26,7 +26,18 @@ same-length c = search needs
 returns : tie.Need-returns
 unfolding upper
 returns c =
-    (and-then (and-then (and-then (and-then (c .before .before .before .before .before .before .before .before .before .before .before .before .before .before .before .before .before .before .put-place .ensures .0) (c .before .before .before .before .before .before .before .before .before .before .before .before .before .before .put-place2 .ensures .0)) (c .before .before .before .before .before .before .before .before .before .before .put-place3 .ensures .0)) (c .before .before .before .before .before .before .put-place4 .ensures .0)) (c .before .before .put-place5 .ensures .0), search needs)
+    let fifth = c .before .before in
+    let fourth = fifth .before .before .before .before in
+    let third = fourth .before .before .before .before in
+    let second = third .before .before .before .before in
+    let first = second .before .before .before .before in (
+      and-then (and-then (and-then (and-then (first .put-place .ensures .0)
+          (second .put-place2 .ensures .0))
+          (third .put-place3 .ensures .0))
+          (fourth .put-place4 .ensures .0))
+          (fifth .put-place5 .ensures .0),
+      search needs,
+    )
 
 pub put-upper-spec : {M : Type 1} → statement M
 put-upper-spec =

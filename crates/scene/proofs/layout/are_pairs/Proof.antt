@@ -33,7 +33,9 @@ loop-less c = search needs
 
 loop-again : tie.Need-loop-again Inv-loop μ-loop
 unfolding arePairs
-loop-again c = (search needs, rw (add-one, c .is-pair .ensures, c .before .pair-at .ensures .0, c .before .before .before .loop .inv .1))
+loop-again c =
+    let turn = c .before .before .before in
+    (search needs, rw (add-one, c .is-pair .ensures, c .before .pair-at .ensures .0, turn .loop .inv .1))
 
 returns : tie.Need-returns Inv-loop μ-loop
 returns c = c .before .loop .inv .1 ∙ ap (arePairs _ _) (le-antisymm (c .before .loop .inv .0) (c .loop-test .left))

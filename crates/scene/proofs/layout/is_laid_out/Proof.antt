@@ -27,7 +27,17 @@ add-result c = search needs
 
 returns : tie.Need-returns
 unfolding laidOut
-returns c = rw (c .word2 .ensures, c .before .pair-count .ensures, c .before .before .word .ensures, c .before .before .before .displacements-at .ensures .0, c .before .before .before .before .limits-at .ensures .0, c .before .before .before .before .before .point-count .ensures)
+returns c =
+    let second = c .before .before in
+    let limits = second .before .before in
+    rw (
+      c .word2 .ensures,
+      c .before .pair-count .ensures,
+      second .word .ensures,
+      second .before .displacements-at .ensures .0,
+      limits .limits-at .ensures .0,
+      limits .before .point-count .ensures,
+    )
 
 pub is-laid-out-spec : {M : Type 1} → statement M
 is-laid-out-spec =

@@ -33,7 +33,16 @@ word-requires-5 c κs = search needs
 
 returns : tie.Need-returns
 unfolding isPair
-returns c = rw (c .word5 .ensures, c .before .word4 .ensures, c .before .before .word3 .ensures, c .before .before .before .word2 .ensures, c .before .before .before .before .word .ensures)
+returns c =
+    let third = c .before .before in
+    let first = third .before .before in
+    rw (
+      c .word5 .ensures,
+      c .before .word4 .ensures,
+      third .word3 .ensures,
+      third .before .word2 .ensures,
+      first .word .ensures,
+    )
 
 pub is-pair-spec : {M : Type 1} → statement M
 is-pair-spec =

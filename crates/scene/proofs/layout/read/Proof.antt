@@ -55,22 +55,28 @@ refused-requires-2 c κs = search needs
 
 returns : tie.Need-returns
 returns c =
-    let laid = sym (c .before .before .before .before .before .is-laid-out .ensures) ∙ c .before .before .before .before .if1 .taken in
-    let good = sym (c .before .are-pairs .ensures) ∙ c .if2 .taken in
-    both _ (bytes (c .before .before .before .before .before .before)) _
-    (good-scene _ _ _ (c .before .before .before .point-count .ensures) (c .before .before .pair-count .ensures) laid good)
+    let counted = c .before .before in
+    let test = counted .before .before in
+    let first = test .before .is-laid-out in
+    both _ (bytes (test .before .before)) _
+    (good-scene _ _ _ (counted .before .point-count .ensures) (counted .pair-count .ensures)
+    (sym (first .ensures) ∙ test .if1 .taken) (sym (c .before .are-pairs .ensures) ∙ c .if2 .taken))
 
 returns-2 : tie.Need-returns-2
 returns-2 c =
-    let laid = sym (c .before .before .before .before .before .before .is-laid-out .ensures) ∙ c .before .before .before .before .before .if1 .taken in
-    let bad = sym (c .before .before .are-pairs .ensures) ∙ c .before .if2 .left in
-    both _ (bytes (c .before .before .before .before .before .before .before)) _
-    (c .refused .ensures ∙ bad-scene _ _ _ (c .before .before .before .before .point-count .ensures) (c .before .before .before .pair-count .ensures) laid bad)
+    let counted = c .before .before .before in
+    let test = counted .before .before in
+    let first = test .before .is-laid-out in
+    both _ (bytes (test .before .before)) _
+    (c .refused .ensures
+    ∙ bad-scene _ _ _ (counted .before .point-count .ensures) (counted .pair-count .ensures)
+    (sym (first .ensures) ∙ test .if1 .taken) (sym (c .before .before .are-pairs .ensures) ∙ c .before .if2 .left))
 
 returns-3 : tie.Need-returns-3
 returns-3 c =
-    let wrong = sym (c .before .before .is-laid-out .ensures) ∙ c .before .if1 .left in
-    both _ (bytes (c .before .before .before)) _ (c .refused2 .ensures ∙ wrong-scene _ wrong)
+    let first = c .before .before in
+    both _ (bytes (first .before)) _
+    (c .refused2 .ensures ∙ wrong-scene _ (sym (first .is-laid-out .ensures) ∙ c .before .if1 .left))
 
 pub read-spec : {M : Type 1} → statement M
 read-spec =

@@ -28,7 +28,8 @@ chosen-requires-4 c κs = search needs
 returns : tie.Need-returns
 unfolding gathered
 returns c =
-    rw (c .chosen4 .ensures, c .before .chosen3 .ensures, c .before .before .chosen2 .ensures, c .before .before .before .chosen .ensures)
+    let second = c .before .before in
+    rw (c .chosen4 .ensures, c .before .chosen3 .ensures, second .chosen2 .ensures, second .before .chosen .ensures)
 
 pub gathered-spec : {M : Type 1} → statement M
 gathered-spec =

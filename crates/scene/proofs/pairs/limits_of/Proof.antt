@@ -28,7 +28,8 @@ number-requires-3 c κs = search needs
 returns : tie.Need-returns
 unfolding limitsOf
 returns c =
-    rw (c .number3 .ensures, c .before .number2 .ensures, c .before .before .number .ensures, c .before .before .before .limits-at .ensures .0)
+    let first = c .before .before in
+    rw (c .number3 .ensures, c .before .number2 .ensures, first .number .ensures, first .before .limits-at .ensures .0)
 
 pub limits-of-spec : {M : Type 1} → statement M
 limits-of-spec =
