@@ -37,6 +37,13 @@ refusal-second true true = (λ e. omega arith, λ n. absurd (n .1))
 refusal-second true false = (λ e. (tt, tt), λ n. refl)
 refusal-second false ranged = (λ e. absurd (omega arith), λ n. absurd (n .0))
 
+-- where what lies in its range is finite: in its range, admitted; beyond it, the verdict on finite numbers alone
+pub ranged-none : (finite ranged : Bool) → (T ranged → T finite) → ranged ≡ true → 0 ≡ refusal finite ranged
+ranged-none finite ranged real e = rw (is-true finite (real (subst T (sym e) tt)), e)
+
+pub ranged-beyond : (finite ranged : Bool) → ranged ≡ false → refusal finite false ≡ refusal finite ranged
+ranged-beyond finite ranged e = rw e
+
 -- ---- the numbers of four points, by column and place
 abbrev pub Each : (Float → Bool) → List (List Float) → Type 0
 Each test x = (i j : ℕ) → i < 4 → j < 3 → T (test (at (col x i) j))
@@ -93,7 +100,7 @@ three-real v h =
     (and-i (isFinite (at v 0)) (isFinite (at v 1)) (limit-real (at v 0) (t .0)) (limit-real (at v 1) (t .1)))
     (limit-real (at v 2) (t .2))
 
-points-real : (x : List (List Float)) → T (limitPoints x) → T (finitePoints x)
+pub points-real : (x : List (List Float)) → T (limitPoints x) → T (finitePoints x)
 unfolding limitPoints finitePoints
 points-real x h =
     let range : ℕ → Bool = λ i. ofThree inLimit (col x i) in
@@ -103,6 +110,14 @@ points-real x h =
     (and-i (real 0 && real 1) (real 2)
     (and-i (real 0) (real 1) (three-real (col x 0) (q .0)) (three-real (col x 1) (q .1)))
     (three-real (col x 2) (q .2))) (three-real (col x 3) (q .3))
+
+pub pair-real : (x dx : List (List Float)) → T (limitPoints x && limitPoints dx) → T (finitePoints x && finitePoints dx)
+pair-real x dx h =
+    and-i (finitePoints x) (finitePoints dx) (points-real x (and-l (limitPoints x) (limitPoints dx) h))
+    (points-real dx (and-r (limitPoints x) (limitPoints dx) h))
+
+pub one-real : (t : Float) → T (zeroToOne t) → T (isFinite t)
+one-real t h = within-real 0 t (zero-to-one t h .2)
 
 limits-real : (l : Limits) → T (rangedLimits l) → T (finiteLimits l)
 unfolding rangedLimits finiteLimits
@@ -115,7 +130,7 @@ limits-real l h =
     and-i (isFinite o && isFinite c && isFinite t) (isFinite u)
     (and-i (isFinite o && isFinite c) (isFinite t)
     (and-i (isFinite o) (isFinite c) (within-real 20 o (zero-to-limit o (q .0) .1))
-    (within-real 20 c (zero-to-limit c (q .1) .1))) (within-real 0 t (zero-to-one t (q .2) .2)))
+    (within-real 20 c (zero-to-limit c (q .1) .1))) (one-real t (q .2)))
     (within-real 60 u (speed-range u (q .3) .2))
 
 -- ---- the split
@@ -161,16 +176,16 @@ module _ (x dx : List (List Float)) (split : ℕ) (l : Limits) where
   walk-real h =
       let q = quadruple (limitPoints x) (limitPoints dx) (rangedLimits l) (isSplit split) h in
       and-i (finitePoints x && finitePoints dx) (finiteLimits l)
-      (and-i (finitePoints x) (finitePoints dx) (points-real x (q .0)) (points-real dx (q .1))) (limits-real l (q .2))
+      (pair-real x dx (and-i (limitPoints x) (limitPoints dx) (q .0) (q .1))) (limits-real l (q .2))
 
   -- in its range: admitted; beyond it: the verdict on finite numbers alone
   pub walk-none : rangedWalk x dx split l ≡ true → 0 ≡ walkRefusal x dx split l
   unfolding walkRefusal
-  walk-none e = rw (is-true (finiteWalk x dx l) (walk-real (subst T (sym e) tt)), e)
+  walk-none e = ranged-none (finiteWalk x dx l) (rangedWalk x dx split l) walk-real e
 
   pub walk-beyond : rangedWalk x dx split l ≡ false → refusal (finiteWalk x dx l) false ≡ walkRefusal x dx split l
   unfolding walkRefusal
-  walk-beyond e = rw e
+  walk-beyond e = ranged-beyond (finiteWalk x dx l) (rangedWalk x dx split l) e
 
   pub walk-first : (walkRefusal x dx split l ≡ 1) ↔ T (not (finiteWalk x dx l))
   unfolding walkRefusal

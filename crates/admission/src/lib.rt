@@ -106,11 +106,14 @@ pub fn admit_points(x: [[f32; 3]; 4]) -> u32
     verdict(points_finite(x), points_in_limit(x))
 }
 
-// Four points and their split: the norm, the distance.
+// Four points and their split: the norm, the distance. Ranges first, as of the walk.
 pub fn admit_split(x: [[f32; 3]; 4], split: usize) -> u32
     ensures { λ r. ⌜ r ≡ Def.splitRefusal x split ⌝ }
 {
-    verdict(points_finite(x), points_in_limit(x) & is_split(split))
+    if points_in_limit(x) & is_split(split) {
+        return 0;
+    }
+    verdict(points_finite(x), false)
 }
 
 // Four points and a factor.
@@ -123,23 +126,26 @@ pub fn admit_factor(x: [[f32; 3]; 4], s: f32) -> u32
     )
 }
 
-// The 24 numbers of a pair: coplanar times.
+// The 24 numbers of a pair: coplanar times. Ranges first.
 pub fn admit_motion(x: [[f32; 3]; 4], dx: [[f32; 3]; 4]) -> u32
     ensures { λ r. ⌜ r ≡ Def.motionRefusal x dx ⌝ }
 {
-    verdict(
-        points_finite(x) & points_finite(dx),
-        points_in_limit(x) & points_in_limit(dx),
-    )
+    if points_in_limit(x) & points_in_limit(dx) {
+        return 0;
+    }
+    verdict(points_finite(x) & points_finite(dx), false)
 }
 
-// The 24 numbers of a pair and a time: moved points, scaling.
+// The 24 numbers of a pair and a time: moved points, scaling. Ranges first.
 pub fn admit_time(x: [[f32; 3]; 4], dx: [[f32; 3]; 4], t: f32) -> u32
     ensures { λ r. ⌜ r ≡ Def.timeRefusal x dx t ⌝ }
 {
+    if points_in_limit(x) & points_in_limit(dx) & range::zero_to_one(t) {
+        return 0;
+    }
     verdict(
         points_finite(x) & points_finite(dx) & range::is_finite(t),
-        points_in_limit(x) & points_in_limit(dx) & range::zero_to_one(t),
+        false,
     )
 }
 

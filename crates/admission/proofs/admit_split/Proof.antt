@@ -1,11 +1,28 @@
--- `admission::admit_split` meets its contract. Assumes nothing.
+-- `admission::admit_split` meets its contract: what lies in its range is admitted, and of what does not the finite
+-- numbers decide. Assumes nothing.
+use Prim.Native.Nat.{ℕ}
+use mathlib.Core.Path.{_≡_, _∙_}
+use mathlib.Core.Bool.{Bool, true, false, _&&_}
+use mathlib.Core.List.{List}
+use lib.Ieee.{Float}
+use lib.Ieee.Fits.{and-l}
 use borrow.Author.Needs.{needs}
-use Rattle.admission.specs.Admission.{splitRefusal}
+use Rattle.admission.specs.Admission.{finitePoints, limitPoints, isSplit, refusal, splitRefusal}
+use Rattle.admission.proofs.Admitted.{ranged-none, ranged-beyond, points-real}
 use Rattle.admission.proofs.admit_split.Statement.{statement}
 use Rattle.admission.proofs.admit_split.Tie as tie
 
-points-finite-requires : tie.Need-points-finite-requires
-points-finite-requires c κs = search needs
+-- by what the calls answer
+module _ (x : List (List Float)) (split : ℕ) (p s : Bool) (ep : p ≡ limitPoints x) (es : s ≡ isSplit split) where
+  taken : (p && s) ≡ true → 0 ≡ splitRefusal x split
+  unfolding splitRefusal
+  taken e =
+      ranged-none (finitePoints x) (limitPoints x && isSplit split)
+      (λ h. points-real x (and-l (limitPoints x) (isSplit split) h)) (rw (← ep, ← es) e)
+
+  left : (p && s) ≡ false → refusal (finitePoints x) false ≡ splitRefusal x split
+  unfolding splitRefusal
+  left e = ranged-beyond (finitePoints x) (limitPoints x && isSplit split) (rw (← ep, ← es) e)
 
 points-in-limit-requires : tie.Need-points-in-limit-requires
 points-in-limit-requires c κs = search needs
@@ -13,25 +30,34 @@ points-in-limit-requires c κs = search needs
 is-split-requires : tie.Need-is-split-requires
 is-split-requires c κs = search needs
 
+returns : tie.Need-returns
+returns c =
+    let p = c .before .before in
+    let a = p .before .args in
+    taken (a .x) (a .split) _ _ (p .points-in-limit .ensures) (c .before .is-split .ensures) (c .if1 .taken)
+
+points-finite-requires : tie.Need-points-finite-requires
+points-finite-requires c κs = search needs
+
 verdict-requires : tie.Need-verdict-requires
 verdict-requires c κs = search needs
 
-returns : tie.Need-returns
-unfolding splitRefusal
-returns c =
-    rw (
-      c .verdict .ensures,
-      c .before .is-split .ensures,
-      c .before .before .points-in-limit .ensures,
-      c .before .before .before .points-finite .ensures,
-    )
+returns-2 : tie.Need-returns-2
+returns-2 c =
+    let e = c .before .before in
+    let p = e .before .before in
+    let a = p .before .args in
+    c .verdict .ensures
+    ∙ rw (c .before .points-finite .ensures)
+    (left (a .x) (a .split) _ _ (p .points-in-limit .ensures) (e .before .is-split .ensures) (e .if1 .left))
 
 pub admit-split-spec : {M : Type 1} → statement M
 admit-split-spec =
     tie.close
     (tie.spec
-    points-finite-requires
     points-in-limit-requires
     is-split-requires
+    returns
+    points-finite-requires
     verdict-requires
-    returns)
+    returns-2)

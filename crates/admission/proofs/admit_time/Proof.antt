@@ -1,17 +1,40 @@
--- `admission::admit_time` meets its contract. Assumes nothing.
+-- `admission::admit_time` meets its contract: what lies in its range is admitted, and of what does not the finite
+-- numbers decide. Assumes nothing.
+use mathlib.Core.Path.{_≡_, _∙_}
+use mathlib.Core.Bool.{Bool, true, false, _&&_}
+use mathlib.Core.List.{List}
+use lib.Dec.{T}
+use lib.Ieee.{Float}
+use lib.Ieee.Fits.{and-i, and-l, and-r}
 use borrow.Author.Needs.{needs}
-use Rattle.admission.specs.Admission.{timeRefusal}
+use Rattle.number.specs.Range.{isFinite, zeroToOne}
+use Rattle.admission.specs.Admission.{finitePoints, limitPoints, refusal, timeRefusal}
+use Rattle.admission.proofs.Admitted.{ranged-none, ranged-beyond, pair-real, one-real}
 use Rattle.admission.proofs.admit_time.Statement.{statement}
 use Rattle.admission.proofs.admit_time.Tie as tie
 
-points-finite-requires : tie.Need-points-finite-requires
-points-finite-requires c κs = search needs
+module _ (x dx : List (List Float)) (t : Float) where
+  abbrev finite : Bool
+  finite = finitePoints x && finitePoints dx && isFinite t
 
-points-finite-requires-2 : tie.Need-points-finite-requires-2
-points-finite-requires-2 c κs = search needs
+  abbrev ranged : Bool
+  ranged = limitPoints x && limitPoints dx && zeroToOne t
 
-is-finite-requires : tie.Need-is-finite-requires
-is-finite-requires c κs = search needs
+  real : T ranged → T finite
+  real h =
+      and-i (finitePoints x && finitePoints dx) (isFinite t)
+      (pair-real x dx (and-l (limitPoints x && limitPoints dx) (zeroToOne t) h))
+      (one-real t (and-r (limitPoints x && limitPoints dx) (zeroToOne t) h))
+
+  -- by what the calls answer
+  module _ (p q s : Bool) (ep : p ≡ limitPoints x) (eq : q ≡ limitPoints dx) (es : s ≡ zeroToOne t) where
+    taken : (p && q && s) ≡ true → 0 ≡ timeRefusal x dx t
+    unfolding timeRefusal
+    taken e = ranged-none finite ranged real (rw (← ep, ← eq, ← es) e)
+
+    left : (p && q && s) ≡ false → refusal finite false ≡ timeRefusal x dx t
+    unfolding timeRefusal
+    left e = ranged-beyond finite ranged (rw (← ep, ← eq, ← es) e)
 
 points-in-limit-requires : tie.Need-points-in-limit-requires
 points-in-limit-requires c κs = search needs
@@ -22,31 +45,48 @@ points-in-limit-requires-2 c κs = search needs
 zero-to-one-requires : tie.Need-zero-to-one-requires
 zero-to-one-requires c κs = search needs
 
+returns : tie.Need-returns
+returns c =
+    let z = c .before in
+    let p = z .before .before in
+    let a = p .before .args in
+    taken (a .x) (a .dx) (a .t) _ _ _ (p .points-in-limit .ensures) (z .before .points-in-limit2 .ensures)
+    (z .zero-to-one .ensures) (c .if1 .taken)
+
+points-finite-requires : tie.Need-points-finite-requires
+points-finite-requires c κs = search needs
+
+points-finite-requires-2 : tie.Need-points-finite-requires-2
+points-finite-requires-2 c κs = search needs
+
+is-finite-requires : tie.Need-is-finite-requires
+is-finite-requires c κs = search needs
+
 verdict-requires : tie.Need-verdict-requires
 verdict-requires c κs = search needs
 
-returns : tie.Need-returns
-unfolding timeRefusal
-returns c =
-    rw (
-      c .verdict .ensures,
-      c .before .zero-to-one .ensures,
-      c .before .before .points-in-limit2 .ensures,
-      c .before .before .before .points-in-limit .ensures,
-      c .before .before .before .before .is-finite .ensures,
-      c .before .before .before .before .before .points-finite2 .ensures,
-      c .before .before .before .before .before .before .points-finite .ensures,
-    )
+returns-2 : tie.Need-returns-2
+returns-2 c =
+    let f = c .before .before in
+    let e = f .before .before in
+    let z = e .before in
+    let p = z .before .before in
+    let a = p .before .args in
+    c .verdict .ensures
+    ∙ rw (c .before .is-finite .ensures, f .points-finite2 .ensures, f .before .points-finite .ensures)
+    (left (a .x) (a .dx) (a .t) _ _ _ (p .points-in-limit .ensures) (z .before .points-in-limit2 .ensures)
+    (z .zero-to-one .ensures) (e .if1 .left))
 
 pub admit-time-spec : {M : Type 1} → statement M
 admit-time-spec =
     tie.close
     (tie.spec
-    points-finite-requires
-    points-finite-requires-2
-    is-finite-requires
     points-in-limit-requires
     points-in-limit-requires-2
     zero-to-one-requires
+    returns
+    points-finite-requires
+    points-finite-requires-2
+    is-finite-requires
     verdict-requires
-    returns)
+    returns-2)
