@@ -1,12 +1,10 @@
 -- Text put after text, and what that says of the buffer. Assumes nothing.
 use Prim.Native.Nat.{ℕ, suc, _+_, _≤_}
 use native.Mathlib.Nat.{add-zero, add-suc, suc-add, add-assoc}
-use native.Mathlib.Numerals.{add-one}
-use native.Mathlib.Omega.{arith}
-use mathlib.Core.Path.{_≡_, refl, sym, ap, _∙_}
+use mathlib.Core.Path.{_≡_, refl, sym, ap, subst, _∙_}
 use mathlib.Core.List.{List, [], _∷_, _++_}
-use lib.ListN.{length, length-append}
-use lib.Seq.{sets, length-sets}
+use lib.ListN.{length, drop, length-append}
+use lib.Seq.{sets, sets-eq, length-sets}
 use Rattle.listing.specs.Text.{Put}
 
 pub sets-append : (a b l : List ℕ) (i : ℕ) → sets (sets l i a) (i + length a) b ≡ sets l i (a ++ b)
@@ -42,3 +40,10 @@ nothing o i = record { wrote = refl; moved = sym (add-zero i) }
 -- another name for the text
 pub as-text : {o o′ a b : List ℕ} {i j : ℕ} → a ≡ b → Put o i a o′ j → Put o i b o′ j
 as-text {o} {o′} {a} {b} {i} {j} e p = rw e at p
+
+-- a text at the start of a buffer that holds it: what lies behind it is as it was
+pub whole-text : {o o′ a : List ℕ} {j : ℕ} → Put o 0 a o′ j → j ≤ length o → o′ ≡ a ++ drop j o
+whole-text {o} {o′} {a} {j} p h =
+    p .wrote
+    ∙ sets-eq a o 0 (subst (λ (k : ℕ). k ≤ length o) (p .moved) h)
+    ∙ ap (λ (k : ℕ). a ++ drop k o) (sym (p .moved))

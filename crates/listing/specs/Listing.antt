@@ -2,7 +2,6 @@
 -- Definitions only.
 use Prim.Native.Nat.{ℕ, zero, suc}
 use mathlib.Core.List.{List, [], _++_}
-use Rattle.scene.specs.declared.layout.Scene.{Scene}
 use Rattle.scene.specs.Layout.{sceneOf}
 use Rattle.scene.specs.Pairs.{timeOf}
 use Rattle.listing.specs.Text.{decimal, line, lineEnd, pairsWord, sceneRefusedWord}

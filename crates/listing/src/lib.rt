@@ -5,7 +5,8 @@ mod text;
 
 ghost use mathlib.Core.Path.{_≡_};
 ghost use mathlib.Core.List.{_++_};
-ghost use Prim.Native.Nat.{_<_, _≤_, _+_};
+ghost use Prim.Native.Nat.{_≤_};
+ghost use lib.ListN.{length, drop};
 ghost use Rattle.listing.specs.Text.{Put};
 ghost use Rattle.listing.specs.Listing as Def;
 use crate::line::put_line;
@@ -53,6 +54,8 @@ fn put_pairs(s: &[u8], pairs: u32, out: &mut [u8]) -> usize
 pub fn listing(s: &[u8], out: &mut [u8]) -> usize
     ensures text { λ r. ⌜ Put (now (out .entry)) 0 (Def.listing (now (s .entry))) (now (out .exit)) r ⌝ }
     ensures short { λ r. ⌜ r ≤ 65536 ⌝ }
+    ensures whole { λ r. ⌜ (r ≤ length (now (out .entry))
+        → now (out .exit) ≡ Def.listing (now (s .entry)) ++ drop r (now (out .entry))) ⌝ }
 {
     let scene = layout::read(s);
     if scene.refusal == 0 {

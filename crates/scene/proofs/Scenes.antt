@@ -7,7 +7,6 @@ use mathlib.Core.List.{List}
 use lib.Dec.{T, leb, eqb, leb→le}
 use lib.ListN.{length}
 use lib.Ieee.Fits.{and-l, and-r}
-use Rattle.scene.specs.declared.layout.Scene.{Scene}
 use Rattle.scene.specs.Words.{word}
 use Rattle.scene.specs.Layout.{displacementsAt, limitsAt, pointCount, pairCount}
 use Rattle.scene.specs.Layout.{laidOut, arePairs, refused, sceneOf}

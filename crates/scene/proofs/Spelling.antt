@@ -1,11 +1,11 @@
 -- The two ways to say that a file is laid out as a scene are one: the test of its counts and its length (`laidOut`),
 -- and the four sections put together (`Spelled`). Assumes nothing.
-use Prim.Native.Nat.{ℕ, suc, _+_, _-_, _*_, _/_, _%_, _≤_, _<_}
+use Prim.Native.Nat.{ℕ, suc, _+_, _*_, _/_, _%_, _≤_, _<_}
 use native.Mathlib.Nat.{div-div-eq-div-mul, div-add-mod'}
 use native.Mathlib.Numerals.{add-one}
 use native.Mathlib.Omega.{arith}
 use mathlib.Core.Path.{_≡_, refl, sym, ap, subst, _∙_}
-use mathlib.Core.Bool.{Bool, true, false, cond, _&&_, true≢false}
+use mathlib.Core.Bool.{Bool, true, false, cond, _&&_}
 use mathlib.Core.List.{List, [], _∷_, _++_, append-assoc}
 use borrow.Author.Tests.{le-leb, eq-eqb, leb-true, eqb-true}
 use lib.Dec.{T, leb, eqb}
@@ -13,7 +13,6 @@ use lib.Ieee.Fits.{and-l, and-r}
 use lib.Ieee.Bits.{is-true}
 use lib.ListN.{length, getD, take, drop, length-append, length-drop, take-append-drop}
 use lib.Seq.{drop-cons, drop-drop, getD-append-seam, getD-append-add, length-take-le}
-use Rattle.scene.specs.declared.layout.Scene.{Scene}
 use Rattle.scene.specs.Words.{word}
 use Rattle.scene.specs.Layout.{displacementsAt, pairsAt, limitsAt, pointCount, pairCount}
 use Rattle.scene.specs.Layout.{laidOut, arePairs, refused, sceneOf}

@@ -45,7 +45,7 @@ isPair s p n =
     && ltb (word s (p + 12)) n
     && ltb (word s (p + 16)) n
 
--- each of the first k pairs is
+-- each of the first k pairs is so
 unfoldable pub arePairs : List ℕ → ℕ → ℕ → Bool
 arePairs s n zero = true
 arePairs s n (suc k) = isPair s (pairAt n k) n && arePairs s n k
@@ -53,6 +53,7 @@ arePairs s n (suc k) = isPair s (pairAt n k) n && arePairs s n k
 abbrev pub refused : ℕ → Scene
 refused r = record { refusal = r; points = 0; pairs = 0 }
 
+-- what the file is: 10 before 11
 unfoldable pub sceneOf : List ℕ → Scene
 sceneOf s =
     cond (laidOut s)

@@ -44,7 +44,7 @@ fn is_pair(s: &[u8], at: usize, points: u32) -> bool
         & (word(s, at + 16) < points)
 }
 
-// So is each of the first `pairs` pairs.
+// Each of the first `pairs` pairs is so.
 fn are_pairs(s: &[u8], points: u32, pairs: u32) -> bool
     ensures { λ r. ⌜ r ≡ Def.arePairs (now (s .entry)) points pairs ⌝ }
 {
@@ -57,6 +57,7 @@ fn are_pairs(s: &[u8], points: u32, pairs: u32) -> bool
     good
 }
 
+// A refused file has no counts.
 fn refused(refusal: u32) -> Scene
     ensures { λ r. ⌜ r ≡ Def.refused refusal ⌝ }
 {
@@ -67,7 +68,7 @@ fn refused(refusal: u32) -> Scene
     }
 }
 
-// What the file is.
+// What the file is: the layout is tested first, then the pairs.
 pub fn read(s: &[u8]) -> Scene
     ensures scene { λ r. ⌜ r ≡ Def.sceneOf (now (s .entry)) ⌝ }
     ensures taken { λ r. ⌜ Taken (now (s .entry)) r ⌝ }

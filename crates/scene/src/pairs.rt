@@ -1,7 +1,7 @@
 // A pair of a scene (docs/01-scope.md, "The scene file"): its points and displacements gathered by their numbers, its
 // limits, its safe time.
 ghost use mathlib.Core.Path.{_≡_};
-ghost use Prim.Native.Nat.{_<_, _≤_};
+ghost use Prim.Native.Nat.{_<_};
 ghost use Rattle.scene.specs.Pairs as Def;
 use crate::places::displacements_at;
 use crate::places::limits_at;

@@ -1,13 +1,12 @@
 -- `listing::listing` meets its contract: what is listed goes by the refusal. Assumes nothing.
-use Prim.Native.Nat.{ℕ, zero, suc, _≤_}
-use native.Mathlib.Omega.{arith}
-use mathlib.Core.Path.{_≡_, refl, sym, ap, subst, _∙_}
+use Prim.Native.Nat.{ℕ, zero, suc}
+use mathlib.Core.Path.{_≡_, refl}
 use mathlib.Core.List.{List, _++_}
 use borrow.Author.Needs.{needs}
 use Rattle.scene.specs.declared.layout.Scene.{Scene}
 use Rattle.scene.specs.Layout.{sceneOf}
 use Rattle.listing.specs.Listing.{head, lines, refusedLine, listed, listing}
-use Rattle.listing.proofs.Puts.{as-text}
+use Rattle.listing.proofs.Puts.{as-text, whole-text}
 use Rattle.scene.proofs.Scenes.{few-pairs}
 use Rattle.listing.proofs.listing.Statement.{statement}
 use Rattle.listing.proofs.listing.Tie as tie
@@ -43,10 +42,9 @@ returns : tie.Need-returns
 returns c =
     let put = c .before .before in
     let taken = put .before .before in
-    let read = taken .before .before .read in (
-      as-text (lists _ (read .result) (read .ensures .0) (taken .if1 .taken)) (put .put-pairs .ensures .0),
-      put .put-pairs .ensures .1,
-    )
+    let read = taken .before .before .read in
+    let text = as-text (lists _ (read .result) (read .ensures .0) (taken .if1 .taken)) (put .put-pairs .ensures .0) in
+    (text, (put .put-pairs .ensures .1, whole-text text))
 
 same-length-2 : tie.Need-same-length-2
 same-length-2 c = search needs
@@ -55,10 +53,10 @@ returns-2 : tie.Need-returns-2
 returns-2 c =
     let put = c .before .before in
     let left = put .before .before in
-    let read = left .before .before .read in (
-      as-text (refusal-listed _ (read .result) (read .ensures .0) (left .if1 .left)) (put .put-refused .ensures .0),
-      search needs,
-    )
+    let read = left .before .before .read in
+    let same = refusal-listed _ (read .result) (read .ensures .0) (left .if1 .left) in
+    let text = as-text same (put .put-refused .ensures .0) in
+    (text, (search needs, whole-text text))
 
 pub listing-spec : {M : Type 1} → statement M
 listing-spec =

@@ -3,11 +3,9 @@
 use Prim.Native.Nat.{ℕ, _+_, _*_, _-_, _≤_}
 use native.Mathlib.Nat.{le-antisymm}
 use native.Mathlib.Numerals.{add-one}
-use native.Mathlib.Omega.{arith}
-use mathlib.Core.Path.{_≡_, refl, sym, ap, _∙_}
+use mathlib.Core.Path.{_≡_, ap}
 use mathlib.Core.List.{List, _++_}
 use borrow.Author.Needs.{needs}
-use lib.ListN.{length}
 use Rattle.listing.specs.Text.{Put, line}
 use Rattle.scene.specs.Pairs.{timeOf}
 use Rattle.listing.specs.Listing.{head, lines}
@@ -58,7 +56,8 @@ start c = c .before .before .before .before .before .before .before .before
 
 -- the first line and those of the pairs
 all : (c : tie.After-loop Inv-loop μ-loop)
-    → Put (start c .args .out .now) 0 (head (start c .args .pairs) ++ lines (start c .args .s .now) (start c .args .pairs))
+    → Put (start c .args .out .now) 0
+    (head (start c .args .pairs) ++ lines (start c .args .s .now) (start c .args .pairs))
     (c .before .loop .out) (c .before .loop .at)
 all c =
     let first = c .before .before .before .before in

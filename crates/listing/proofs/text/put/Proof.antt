@@ -1,11 +1,9 @@
 -- `listing::text::put` meets its contract: where the place lies past the buffer, the store is none. Assumes nothing.
 use Prim.Native.Nat.{_+_}
-use mathlib.Core.Path.{_≡_, refl, sym, _∙_}
-use mathlib.Core.List.{List, [], _∷_}
+use mathlib.Core.Path.{refl, sym, _∙_}
+use mathlib.Core.List.{[], _∷_}
 use mathlib.Core.Logic.{⊎-elim}
-use native.Mathlib.Omega.{arith}
 use borrow.Author.Needs.{needs}
-use lib.ListN.{length, set}
 use lib.Seq.{set-out}
 use Rattle.listing.specs.Text.{Put}
 use Rattle.listing.proofs.Puts.{keeps-length}

@@ -1,13 +1,11 @@
 -- `listing::text::put_text` meets its contract: after i turns the first i bytes of the text are put. Assumes nothing.
 use Prim.Native.Nat.{ℕ, _+_, _-_, _≤_, _<_}
-use native.Mathlib.Nat.{le-antisymm}
 use native.Mathlib.Numerals.{add-one}
-use native.Mathlib.Omega.{arith}
-use mathlib.Core.Path.{_≡_, refl, sym, subst}
+use mathlib.Core.Path.{_≡_, sym}
 use mathlib.Core.List.{List, [], _∷_, _++_}
 use borrow.Author.Needs.{needs}
-use lib.ListN.{length, take, getD, length-take}
-use lib.Seq.{take-suc, take-all, length-take-le}
+use lib.ListN.{length, take, getD}
+use lib.Seq.{take-suc, take-all}
 use Rattle.listing.specs.Text.{Put}
 use Rattle.listing.proofs.Puts.{and-then, as-text, keeps-length, nothing}
 use Rattle.listing.proofs.text.put_text.Statement.{statement}
@@ -41,7 +39,8 @@ loop-again : tie.Need-loop-again Inv-loop μ-loop
 loop-again c =
     let turn = c .before .before .before .before .before in
     let more = one-more (turn .before .before .before .before .args .text .now) _ (turn .loop-test .taken) in
-    (search needs, search needs, as-text more (and-then (turn .before .loop .inv .2) (c .before .before .put .ensures .0)))
+    let put = and-then (turn .before .loop .inv .2) (c .before .before .put .ensures .0) in
+    (search needs, search needs, as-text more put)
 
 same-length : tie.Need-same-length Inv-loop μ-loop
 same-length c = keeps-length (c .before .loop .inv .2)
