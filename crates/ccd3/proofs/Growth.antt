@@ -26,7 +26,17 @@ use Rattle.number.proofs.Within.{Within, within-finite, within-more, add-within
 use Rattle.geometry.specs.Vec3.{dot}
 use Rattle.admission.specs.declared.Limits.{Limits}
 use Rattle.ccd3.specs.declared.Aim.{Aim}
-use Rattle.ccd3.specs.Directional.{Cross, crossPairs, gap, rel, lessened, projected, leastOver, directional, largest}
+use Rattle.ccd3.specs.Directional.{
+  Cross,
+  crossPairs,
+  gap,
+  rel,
+  lessened,
+  projected,
+  leastOver,
+  directional,
+  largest,
+}
 use Rattle.ccd3.specs.Step.{park, dip, plain, aim, Visit, step, next}
 use Rattle.ccd3.proofs.PlainStep.{Most, excess-plus}
 

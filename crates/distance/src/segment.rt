@@ -6,14 +6,16 @@ ghost use mathlib.Core.Path.{_≡_};
 ghost use Rattle.distance.specs.Segment as Def;
 
 // The ratio from q0 along d of the place that is taken as the nearest to p: 0 where d has no length.
+// The quotient is taken before that test, which a compiler can then make without a branch.
 fn ratio(p: [f32; 3], q0: [f32; 3], d: [f32; 3]) -> f32
     ensures { λ r. ⌜ r ≡ Def.ratioAlong p q0 d ⌝ }
 {
     let length = vec3::dot(d, d);
+    let quotient = vec3::dot(vec3::sub(p, q0), d) / length;
     if length == 0.0 {
         0.0
     } else {
-        order::clamp(vec3::dot(vec3::sub(p, q0), d) / length, 0.0, 1.0)
+        order::clamp(quotient, 0.0, 1.0)
     }
 }
 

@@ -23,13 +23,14 @@ module _ (p q0 d : List Float) (length : Float) (isLength : length ≡ dot d d) 
       (g ∙ ap (λ (a : Float). clamp (a ⊘ length) zero32 one32) (f ∙ ap (λ (v : List Float). dot v d) e))
 
 returns : tie.Need-returns
-returns c = no-length _ _ _ _ (c .before .dot .ensures) (c .if1 .taken)
+returns c = no-length _ _ _ _ (c .before .before .before .dot .ensures) (c .if1 .taken)
 
 returns-2 : tie.Need-returns-2
 returns-2 c =
-    some-length _ _ _ _ (c .before .before .before .before .dot .ensures) _ _ _
-    (c .before .before .sub .ensures) (c .before .dot2 .ensures) (c .clamp .ensures)
-    (c .before .before .before .if1 .left)
+    let quotient = c .before .before in
+    some-length _ _ _ _ (quotient .before .before .dot .ensures) _ _ _
+    (quotient .before .sub .ensures) (quotient .dot2 .ensures) (c .clamp .ensures)
+    (c .before .if1 .left)
 
 pub ratio-spec : {M : Type 1} → statement M
 ratio-spec =
