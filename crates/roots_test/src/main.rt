@@ -77,11 +77,32 @@ fn refused_cubics() {
     cubic(0xbf80_0000, 0x4000_0000, 0, 0, 0x3f80_0000, 0x8000_0001);
     cubic(0xbf80_0000, 0x4000_0000, 0, 0, 0x3f80_0000, 0x8000_0000);
     // 6 in the walk over the spans and in the linear case, 7, 8
-    cubic(0xbb21_3e3f, 0x3d5f_f2e6, 0xbecf_5c2a, 0x3f80_0000, 0x3f80_0000, 0);
+    cubic(
+        0xbb21_3e3f,
+        0x3d5f_f2e6,
+        0xbecf_5c2a,
+        0x3f80_0000,
+        0x3f80_0000,
+        0,
+    );
     cubic(0, 0x0000_0001, 0x3f80_0000, 0x3400_0000, 0x0000_0001, 0);
     cubic(0, 0x3400_0000, 0, 0, 0x0000_0001, 0);
-    cubic(0x3b8a_0000, 0xbe80_0000, 0x4000_0000, 0x4000_0000, 0x3dc0_0000, 0);
-    cubic(0x8000_0000, 0x3ff9_35b5, 0xc0a6_23ce, 0x405d_8512, 0x3f40_0000, 0x0000_0001);
+    cubic(
+        0x3b8a_0000,
+        0xbe80_0000,
+        0x4000_0000,
+        0x4000_0000,
+        0x3dc0_0000,
+        0,
+    );
+    cubic(
+        0x8000_0000,
+        0x3ff9_35b5,
+        0xc0a6_23ce,
+        0x405d_8512,
+        0x3f40_0000,
+        0x0000_0001,
+    );
     cubic(0, 0, 0xbf80_0000, 0x3f80_0000, 0x3f80_0000, 0);
     cubic(0, 0, 0, 0x3f80_0000, 0x3f80_0000, 0);
 }
@@ -102,16 +123,51 @@ fn lower_cubics() {
 fn cubics() {
     // a triple root; roots in the order of the spans, which is not ascending
     cubic(0, 0, 0, 0x3f80_0000, 0x3f80_0000, 0x3580_0000);
-    cubic(0xbe12_832d, 0x3f92_832d, 0xc037_23f8, 0x4012_832d, 0x3f40_0000, 0x3400_0000);
-    cubic(0xbea1_b41f, 0x3fe2_c2d7, 0xc053_bcfb, 0x4003_a864, 0x3f80_0000, 0x8000_0000);
+    cubic(
+        0xbe12_832d,
+        0x3f92_832d,
+        0xc037_23f8,
+        0x4012_832d,
+        0x3f40_0000,
+        0x3400_0000,
+    );
+    cubic(
+        0xbea1_b41f,
+        0x3fe2_c2d7,
+        0xc053_bcfb,
+        0x4003_a864,
+        0x3f80_0000,
+        0x8000_0000,
+    );
     // the slope is zero and the value is not: the step goes to an end of the range, to which one a zero's sign decides
     cubic(0x8000_0200, 0, 0, 0x3f80_0000, 0x3f80_0000, 0);
-    cubic(0x8000_0200, 0x8000_0000, 0x8000_0000, 0x3f80_0000, 0x3f80_0000, 0);
+    cubic(
+        0x8000_0200,
+        0x8000_0000,
+        0x8000_0000,
+        0x3f80_0000,
+        0x3f80_0000,
+        0,
+    );
     cubic(0x0000_0200, 0, 0, 0xbf80_0000, 0x3f80_0000, 0);
-    cubic(0x0000_0200, 0x8000_0000, 0x8000_0000, 0xbf80_0000, 0x3f80_0000, 0);
+    cubic(
+        0x0000_0200,
+        0x8000_0000,
+        0x8000_0000,
+        0xbf80_0000,
+        0x3f80_0000,
+        0,
+    );
     // no root of the slope; the largest coefficients
     cubic(0xbf00_0000, 0x3f80_0000, 0, 0x3f80_0000, 0x3f80_0000, 0);
-    cubic(0xc980_0000, 0x4980_0000, 0xc980_0000, 0x4980_0000, 0x3f80_0000, 0);
+    cubic(
+        0xc980_0000,
+        0x4980_0000,
+        0xc980_0000,
+        0x4980_0000,
+        0x3f80_0000,
+        0,
+    );
 }
 
 fn main() {

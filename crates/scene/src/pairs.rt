@@ -10,10 +10,10 @@ use crate::places::point_count;
 use crate::words::number;
 use crate::words::point;
 use crate::words::word;
+use admission::Limits;
 use ccd3::SafeTime;
 use ccd3::safe_time::maximum_safe_time_accurate;
 use pair::norm::norm;
-use admission::Limits;
 
 // Point number `number_at` says, out of the section whose first point lies at byte `base`.
 fn chosen(s: &[u8], base: usize, number_at: usize) -> [f32; 3]

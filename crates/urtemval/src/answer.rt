@@ -3,9 +3,9 @@
 ghost use mathlib.Core.Path.{_≡_};
 ghost use Rattle.urtemval.specs.Told as Def;
 use ccd3::Answer;
+use motion::scaling::Scaling;
 use number::root::Rooted;
 use pair::norm::Normed;
-use motion::scaling::Scaling;
 
 // How a safe time ends: its kind is 0 touching, 1 contact, 2 clear, 3 budget, 4 refused.
 #[repr(C)]

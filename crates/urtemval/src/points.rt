@@ -9,9 +9,9 @@ ghost use Rattle.urtemval.specs.Told as Told;
 ghost use Rattle.urtemval.specs.Lent.{pairOf};
 use crate::answer;
 use crate::answer::Value;
-use pair::norm;
 use motion::record;
 use motion::scaling;
+use pair::norm;
 use pair::separation;
 use pair::separation::Measured;
 

@@ -8,8 +8,8 @@ ghost use Rattle.motion.specs.Coplanar.{coplanarTimes};
 ghost use Rattle.urtemval.specs.Told as Told;
 use crate::answer;
 use crate::answer::Value;
-use number::root;
 use motion::coplanar;
+use number::root;
 use polynomial_root::answer::Roots;
 
 #[no_mangle]
