@@ -12,7 +12,7 @@ ROOT = pathlib.Path(__file__).resolve().parents[2]
 
 # The Rattle records, in the order of the list: the file, the name there, the name in C and Rust.
 RECORDS = [
-    ("crates/pair/src/record.rt", "Limits", "Limits"),
+    ("crates/admission/src/lib.rt", "Limits", "Limits"),
     ("crates/urtemval/src/answer.rt", "SafeTime", "SafeTime"),
     ("crates/pair/src/separation.rt", "Measured", "Distance"),
     ("crates/polynomial_root/src/answer.rt", "Roots", "Roots"),
