@@ -38,9 +38,9 @@ struct Scene {
 /// One section: its count, and as many rows of `WIDTH` words.
 fn section<const WIDTH: usize>(bytes: &mut &[u8], count_is_right: impl Fn(usize) -> bool) -> Option<Vec<[u32; WIDTH]>> {
     let mut word = || -> Option<u32> {
-        let (word, rest) = bytes.split_first_chunk::<4>()?;
-        *bytes = rest;
-        Some(u32::from_le_bytes(*word))
+        let word = bytes.get(..4)?.try_into().ok()?;
+        *bytes = &bytes[4..];
+        Some(u32::from_le_bytes(word))
     };
     let count = word()? as usize;
     if !count_is_right(count) {
@@ -92,7 +92,10 @@ impl Scene {
 
 /// The expected listing of a file.
 fn listing(file: &[u8]) -> String {
-    let Some(scene) = Scene::read(file) else { return "scene refused 10\n".to_string() };
+    let scene = match Scene::read(file) {
+        Some(scene) => scene,
+        None => return "scene refused 10\n".to_string(),
+    };
     if !scene.pairs.iter().all(|pair| scene.well_named(pair)) {
         return "scene refused 11\n".to_string();
     }
@@ -131,7 +134,10 @@ fn damaged(file: &[u8]) -> Vec<Vec<u8>> {
         copies.extend((1..=24).chain([1_000, 200_000]).map(|n| [file, &vec![byte; n]].concat()));
     }
     copies.push([file, file].concat());
-    let Some(scene) = Scene::read(file) else { return copies };
+    let scene = match Scene::read(file) {
+        Some(scene) => scene,
+        None => return copies,
+    };
     let displacements = 4 + 12 * scene.points.len();
     let pairs = 2 * displacements;
     let limits = pairs + 4 + 20 * scene.pairs.len();
