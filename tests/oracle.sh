@@ -18,7 +18,7 @@ dpkg -s librust-num-traits-dev >/dev/null 2>&1 || missing="$missing librust-num-
 if [ -n "$missing" ]; then
     echo "$test: installs $missing"
     # shellcheck disable=SC2086
-    { apt-get update && apt-get install -y $missing; } >/dev/null
+    { apt-get -o Acquire::Retries=3 update && apt-get -o Acquire::Retries=3 install -y $missing; } >/dev/null
 fi
 
 # the package's folder of crates stands in for the registry
