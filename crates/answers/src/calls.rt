@@ -5,7 +5,7 @@ use crate::roots;
 use crate::safe_time;
 use crate::scaling;
 
-pub fn answer(function: u32, call: &[u8], out: &mut [u8]) {
+pub(crate) fn answer(function: u32, call: &[u8], out: &mut [u8]) {
     match function {
         1 => roots::square_root(call, out),
         2 => points::lerp(call, out),

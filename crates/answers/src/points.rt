@@ -5,7 +5,7 @@ use pair::norm::Normed;
 use pair::points;
 use pair::separation;
 
-pub fn lerp(call: &[u8], out: &mut [u8]) {
+pub(crate) fn lerp(call: &[u8], out: &mut [u8]) {
     let placed = points::lerp(
         words::point(call, 4),
         words::point(call, 16),
@@ -16,7 +16,7 @@ pub fn lerp(call: &[u8], out: &mut [u8]) {
     words::put_point(out, 4, point);
 }
 
-pub fn add_scaled(call: &[u8], out: &mut [u8]) {
+pub(crate) fn add_scaled(call: &[u8], out: &mut [u8]) {
     let mut x = [
         [0.0, 0.0, 0.0],
         [0.0, 0.0, 0.0],
@@ -33,21 +33,21 @@ pub fn add_scaled(call: &[u8], out: &mut [u8]) {
     words::put_points(out, 4, x);
 }
 
-pub fn centerize(call: &[u8], out: &mut [u8]) {
+pub(crate) fn centerize(call: &[u8], out: &mut [u8]) {
     let mut x = words::points(call, 4);
     let refusal = points::centerize(&mut x);
     words::put(out, 0, refusal);
     words::put_points(out, 4, x);
 }
 
-pub fn scale_in_place(call: &[u8], out: &mut [u8]) {
+pub(crate) fn scale_in_place(call: &[u8], out: &mut [u8]) {
     let mut x = words::points(call, 4);
     let refusal = points::scale_in_place(&mut x, words::number(call, 52));
     words::put(out, 0, refusal);
     words::put_points(out, 4, x);
 }
 
-pub fn squared_distance(call: &[u8], out: &mut [u8]) {
+pub(crate) fn squared_distance(call: &[u8], out: &mut [u8]) {
     let measured = separation::squared_distance(words::points(call, 4), words::split(call, 52));
     let direction = measured.direction;
     words::put(out, 0, measured.refusal);
@@ -56,7 +56,7 @@ pub fn squared_distance(call: &[u8], out: &mut [u8]) {
     words::put(out, 20, measured.candidate);
 }
 
-pub fn max_relative_norm(call: &[u8], out: &mut [u8]) {
+pub(crate) fn max_relative_norm(call: &[u8], out: &mut [u8]) {
     match norm::max_relative_norm(words::points(call, 4), words::split(call, 52)) {
         Normed::Norm(x) => words::put_number(out, 4, x),
         Normed::Refused(refusal) => words::put(out, 0, refusal),

@@ -5,7 +5,7 @@ use number::root;
 use number::root::Rooted;
 use polynomial_root::answer::Roots;
 
-pub fn square_root(call: &[u8], out: &mut [u8]) {
+pub(crate) fn square_root(call: &[u8], out: &mut [u8]) {
     match root::square_root(words::number(call, 4)) {
         Rooted::Root(x) => words::put_number(out, 4, x),
         Rooted::Refused(refusal) => words::put(out, 0, refusal),
@@ -19,12 +19,12 @@ fn put_roots(out: &mut [u8], answer: Roots) {
     words::put_point(out, 8, roots);
 }
 
-pub fn quadratic_root(call: &[u8], out: &mut [u8]) {
+pub(crate) fn quadratic_root(call: &[u8], out: &mut [u8]) {
     let c = words::point(call, 4);
     put_roots(out, polynomial_root::quadratic_root(c[0], c[1], c[2]));
 }
 
-pub fn cubic_roots(call: &[u8], out: &mut [u8]) {
+pub(crate) fn cubic_roots(call: &[u8], out: &mut [u8]) {
     let c = words::point(call, 4);
     let c3 = words::number(call, 16);
     let t = words::number(call, 20);
@@ -35,7 +35,7 @@ pub fn cubic_roots(call: &[u8], out: &mut [u8]) {
     );
 }
 
-pub fn coplanar_time(call: &[u8], out: &mut [u8]) {
+pub(crate) fn coplanar_time(call: &[u8], out: &mut [u8]) {
     put_roots(
         out,
         coplanar::coplanar_time_mat3x4(words::points(call, 4), words::points(call, 52)),

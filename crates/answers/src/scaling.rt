@@ -11,7 +11,7 @@ fn put_answer(out: &mut [u8], answer: Scaling) {
     }
 }
 
-pub fn normalize(call: &[u8], out: &mut [u8]) {
+pub(crate) fn normalize(call: &[u8], out: &mut [u8]) {
     let scaled = scaling::after_scaling(
         record::pair_of(words::points(call, 4), words::points(call, 52)),
         words::number(call, 100),

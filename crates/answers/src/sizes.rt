@@ -2,7 +2,7 @@
 // the word of that number before its arguments.
 ghost use Prim.Native.Nat.{_<_, _≤_};
 
-pub fn of_call(function: u32) -> usize
+pub(crate) fn of_call(function: u32) -> usize
     ensures { λ r. ⌜ (0 < r) × (r ≤ 120) ⌝ }
 {
     match function {
@@ -19,7 +19,7 @@ pub fn of_call(function: u32) -> usize
     }
 }
 
-pub fn of_answer(function: u32) -> usize
+pub(crate) fn of_answer(function: u32) -> usize
     ensures { λ r. ⌜ r ≤ 104 ⌝ }
 {
     match function {

@@ -6,7 +6,7 @@ fn wide(b: u8) -> u32 {
 }
 
 // The word at byte `at`.
-pub fn word(s: &[u8], at: usize) -> u32 {
+pub(crate) fn word(s: &[u8], at: usize) -> u32 {
     if s.len() < 4 {
         return 0;
     }
@@ -23,7 +23,7 @@ fn put_byte(s: &mut [u8], at: usize, w: u32) {
 }
 
 // Writes a word at byte `at`.
-pub fn put(s: &mut [u8], at: usize, w: u32) {
+pub(crate) fn put(s: &mut [u8], at: usize, w: u32) {
     if at < 65536 {
         put_byte(s, at, w);
         put_byte(s, at + 1, w >> 8);
@@ -49,21 +49,21 @@ fn bits_of(x: f32) -> u32 {
 }
 
 // The number at byte `at`.
-pub fn number(s: &[u8], at: usize) -> f32 {
+pub(crate) fn number(s: &[u8], at: usize) -> f32 {
     number_of(word(s, at))
 }
 
-pub fn put_number(s: &mut [u8], at: usize, x: f32) {
+pub(crate) fn put_number(s: &mut [u8], at: usize, x: f32) {
     put(s, at, bits_of(x));
 }
 
 // The split at byte `at`.
-pub fn split(s: &[u8], at: usize) -> usize {
+pub(crate) fn split(s: &[u8], at: usize) -> usize {
     word(s, at) as usize
 }
 
 // Three numbers from byte `at` on.
-pub fn point(s: &[u8], at: usize) -> [f32; 3] {
+pub(crate) fn point(s: &[u8], at: usize) -> [f32; 3] {
     if at < 65536 {
         [number(s, at), number(s, at + 4), number(s, at + 8)]
     } else {
@@ -71,7 +71,7 @@ pub fn point(s: &[u8], at: usize) -> [f32; 3] {
     }
 }
 
-pub fn put_point(s: &mut [u8], at: usize, p: [f32; 3]) {
+pub(crate) fn put_point(s: &mut [u8], at: usize, p: [f32; 3]) {
     if at < 65536 {
         put_number(s, at, p[0]);
         put_number(s, at + 4, p[1]);
@@ -80,7 +80,7 @@ pub fn put_point(s: &mut [u8], at: usize, p: [f32; 3]) {
 }
 
 // Four points from byte `at` on.
-pub fn points(s: &[u8], at: usize) -> [[f32; 3]; 4] {
+pub(crate) fn points(s: &[u8], at: usize) -> [[f32; 3]; 4] {
     if at < 65536 {
         [
             point(s, at),
@@ -98,7 +98,7 @@ pub fn points(s: &[u8], at: usize) -> [[f32; 3]; 4] {
     }
 }
 
-pub fn put_points(s: &mut [u8], at: usize, x: [[f32; 3]; 4]) {
+pub(crate) fn put_points(s: &mut [u8], at: usize, x: [[f32; 3]; 4]) {
     if at < 65536 {
         let a = x[0];
         let b = x[1];

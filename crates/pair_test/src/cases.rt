@@ -20,7 +20,7 @@ fn factor(answer: Scaling) {
 }
 
 // Scaling a lent pair.
-pub fn scaled(name: &[u8], x: [[f32; 3]; 4], dx: [[f32; 3]; 4], max_t: f32) {
+pub(crate) fn scaled(name: &[u8], x: [[f32; 3]; 4], dx: [[f32; 3]; 4], max_t: f32) {
     text::text(name);
     let s = scaling::after_scaling(record::pair_of(x, dx), max_t);
     let answer = s.answer;
@@ -42,7 +42,7 @@ fn normed(answer: Normed) {
 }
 
 // The norm and the distance of points by a split.
-pub fn measured(name: &[u8], x: [[f32; 3]; 4], split: usize) {
+pub(crate) fn measured(name: &[u8], x: [[f32; 3]; 4], split: usize) {
     text::text(name);
     normed(norm::max_relative_norm(x, split));
     let d = separation::squared_distance(x, split);
@@ -55,7 +55,7 @@ pub fn measured(name: &[u8], x: [[f32; 3]; 4], split: usize) {
 }
 
 // A place along a segment.
-pub fn placed(name: &[u8], p0: [f32; 3], p1: [f32; 3], ratio: f32) {
+pub(crate) fn placed(name: &[u8], p0: [f32; 3], p1: [f32; 3], ratio: f32) {
     text::text(name);
     let r = points::lerp(p0, p1, ratio);
     text::refusal(r.refusal);
@@ -65,7 +65,13 @@ pub fn placed(name: &[u8], p0: [f32; 3], p1: [f32; 3], ratio: f32) {
 }
 
 // Points moved into lent ones; lent points centred and scaled.
-pub fn moved(name: &[u8], x0: [[f32; 3]; 4], dx: [[f32; 3]; 4], t: f32, lent: [[f32; 3]; 4]) {
+pub(crate) fn moved(
+    name: &[u8],
+    x0: [[f32; 3]; 4],
+    dx: [[f32; 3]; 4],
+    t: f32,
+    lent: [[f32; 3]; 4],
+) {
     text::text(name);
     let mut x = lent;
     text::refusal(points::add_scaled(x0, dx, t, &mut x));
@@ -73,7 +79,7 @@ pub fn moved(name: &[u8], x0: [[f32; 3]; 4], dx: [[f32; 3]; 4], t: f32, lent: [[
     text::end();
 }
 
-pub fn centred(name: &[u8], lent: [[f32; 3]; 4]) {
+pub(crate) fn centred(name: &[u8], lent: [[f32; 3]; 4]) {
     text::text(name);
     let mut x = lent;
     text::refusal(points::centerize(&mut x));
@@ -81,7 +87,7 @@ pub fn centred(name: &[u8], lent: [[f32; 3]; 4]) {
     text::end();
 }
 
-pub fn times(name: &[u8], lent: [[f32; 3]; 4], s: f32) {
+pub(crate) fn times(name: &[u8], lent: [[f32; 3]; 4], s: f32) {
     text::text(name);
     let mut x = lent;
     text::refusal(points::scale_in_place(&mut x, s));
@@ -90,7 +96,7 @@ pub fn times(name: &[u8], lent: [[f32; 3]; 4], s: f32) {
 }
 
 // The admission of a safe time.
-pub fn admitted(name: &[u8], x: [[f32; 3]; 4], split: usize, limits: Limits) {
+pub(crate) fn admitted(name: &[u8], x: [[f32; 3]; 4], split: usize, limits: Limits) {
     text::text(name);
     text::refusal(admission::admit_walk(x, x, split, limits));
     text::end();

@@ -11,11 +11,11 @@ fn digit(n: u32) -> u8 {
     }
 }
 
-pub fn text(s: &[u8]) {
+pub(crate) fn text(s: &[u8]) {
     io::write_all(STDOUT_FILENO, s);
 }
 
-pub fn word(n: u32) {
+pub(crate) fn word(n: u32) {
     let digits = [
         32,
         digit(n >> 28),
@@ -31,7 +31,7 @@ pub fn word(n: u32) {
 }
 
 // A NaN has no bits that can be read here.
-pub fn number(x: f32) {
+pub(crate) fn number(x: f32) {
     if x != x {
         text(b" nan");
     } else {
@@ -39,14 +39,14 @@ pub fn number(x: f32) {
     }
 }
 
-pub fn point(v: [f32; 3]) {
+pub(crate) fn point(v: [f32; 3]) {
     number(v[0]);
     number(v[1]);
     number(v[2]);
 }
 
 // Four points, on a line of their own.
-pub fn points(x: [[f32; 3]; 4]) {
+pub(crate) fn points(x: [[f32; 3]; 4]) {
     text(b"\n ");
     let a = x[0];
     let b = x[1];
@@ -59,11 +59,11 @@ pub fn points(x: [[f32; 3]; 4]) {
 }
 
 // A refusal number, 0 where there is none.
-pub fn refusal(n: u32) {
+pub(crate) fn refusal(n: u32) {
     text(b" refusal");
     word(n);
 }
 
-pub fn end() {
+pub(crate) fn end() {
     text(b"\n");
 }

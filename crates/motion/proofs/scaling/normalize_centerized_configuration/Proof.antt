@@ -83,7 +83,9 @@ module _
     got-of : (h : Pair) (t : Float) (r : Outcome)
         → ent 𝓤 (ensured 𝓤 H A core.ended (core.clauses 𝓤 H A at-mem run) tt (h, (t, tt)) tt r)
         (fact 𝓤 (r ≡ outcome h t))
-    got-of h t r = exE 𝓤 _ (λ ws. snd∗ 𝓤 (sem 𝓤 H A (lasts core.ended tt (h, (t, tt)) ws)) (fact 𝓤 (r ≡ outcome h t)))
+    got-of h t r =
+        exE 𝓤 _
+        (λ ws. snd∗ 𝓤 (sem 𝓤 H A (lasts core.ended tt (h, (t, tt)) ws)) (fact 𝓤 (r ≡ outcome h t)))
 
     module _ (W : Given 𝓤 H A) where
       module _ (κ : Lft) (q : Share) (b o : ℕ) (γ : GName) (h : Pair) (t : Float) (ok : fits binary32 t ≡ true) where
@@ -104,7 +106,8 @@ module _
             (Post (answerVal a))
         exits h′ a is e e′ =
             qed W
-            (‵ (fobs γ (T.the-row .coded .code h′)) ∷ ‵ (fbor κ (Body (mem T.the-row) b o γ)) ∷ ‵ (flft κ q) ∷ []) ∵
+            (‵ (fobs γ (T.the-row .coded .code h′)) ∷ ‵ (fbor κ (Body (mem T.the-row) b o γ))
+            ∷ ‵ (flft κ q) ∷ []) ∵
             suffices ! _
             (ends-at 𝓤 H A f.ended stayed (f.clauses 𝓤 H A at-mem run) W (((κ, tt), (q, tt), tt, x, at), tt)
             (answerVal a) a (h′, (tt, tt)) (tt, (tt, tt))) $
@@ -133,7 +136,8 @@ module _
           module _ (l₀ l₁ l₂ l₃ l₄ l₅ : ℕ) where
             abbrev E : Env 𝓤 H
             E =
-                (N′.mir, l₀) ∷ (lent, l₁) ∷ (tyFloat binary32, l₂) ∷ (T′.mir, l₃) ∷ (O′.mir, l₄) ∷ (tyBool, l₅) ∷ []
+                (N′.mir, l₀) ∷ (lent, l₁) ∷ (tyFloat binary32, l₂)
+                ∷ (T′.mir, l₃) ∷ (O′.mir, l₄) ∷ (tyBool, l₅) ∷ []
 
             -- after the branch: the pair h′ lies behind the reference, and the outcome r in `_4`
             abbrev After : Pair → Outcome → List (Item 𝓤)
@@ -167,7 +171,8 @@ module _
               → ent 𝓤 (onEntry 𝓤 H A f.signature (κ, tt) (q, tt) x at)
               (WpFn 𝓤 H C Λ code.function (vptr b o ∷ vfloat binary32 t ∷ []) Post)
           walk fm known =
-              qed W ((‵ (flft κ q) ⊛ ‵ ftrue) ∷ ‵ (owns (MutRef (named 0) κ T.the-row ∷ f32 ∷ []) x at) ∷ []) ∵
+              qed W
+              ((‵ (flft κ q) ⊛ ‵ ftrue) ∷ ‵ (owns (MutRef (named 0) κ T.the-row ∷ f32 ∷ []) x at) ∷ []) ∵
               split ! $ move ! (2 ∷ []) $ fsplit ! $ fsplit3 ! $ drop ! $ keep ! (0 ∷ 1 ∷ 3 ∷ []) $
               -- [obs; the borrow; the token]
               enter ! C Λ code.function (vptr b o ∷ vfloat binary32 t ∷ []) _ $
@@ -206,7 +211,8 @@ module _
               exec ! C Λ (E l₀ l₁ l₂ l₃ l₄ l₅) mir.t-5 (atRet (E l₀ l₁ l₂ l₃ l₄ l₅) Post) $
               ending l₀ l₁ l₂ l₃ l₄ l₅ (r .pair) r (part r _ is) (owes r _ is) (answered h t r e) (stored h t r e))
               -- refused: nothing is stored
-              (λ z. skips ! $ exec ! C Λ (E l₀ l₁ l₂ l₃ l₄ l₅) mir.t-5 (atRet (E l₀ l₁ l₂ l₃ l₄ l₅) Post) $
+              (λ z. skips ! $
+              exec ! C Λ (E l₀ l₁ l₂ l₃ l₄ l₅) mir.t-5 (atRet (E l₀ l₁ l₂ l₃ l₄ l₅) Post) $
               ending l₀ l₁ l₂ l₃ l₄ l₅ h r was (owes r _ is) (answered h t r e) (left h t r e z))))))))))))))
 
       walks : (C : Calls 𝓤 H) (Λ : Loops 𝓤 H) → FmC 𝓤 H (W .laws) C → Triple 𝓤 (C #motion·scaled-pair) Core
@@ -228,7 +234,8 @@ module _
       meets : (𝓣 : Tables 𝓤 H) → Triple 𝓤 (𝓣 .C #motion·scaled-pair) Core
           → Meets 𝓤 H A f.signature (WpFn 𝓤 H (𝓣 .C) (𝓣 .Λ) code.function) (f.spec 𝓤 H A at-mem run)
       meets 𝓣 known =
-          walk-meets 𝓤 H A f.ended stayed W goes (f.clauses 𝓤 H A at-mem run) (WpFn 𝓤 H (𝓣 .C) (𝓣 .Λ) code.function)
+          walk-meets 𝓤 H A f.ended stayed W goes (f.clauses 𝓤 H A at-mem run)
+          (WpFn 𝓤 H (𝓣 .C) (𝓣 .Λ) code.function)
           (WpFn-mono 𝓤 H (W .laws) 𝓣 code.function) (walks (𝓣 .C) (𝓣 .Λ) (fmOf 𝓤 H (W .laws) 𝓣) known)
 
 pub normalize-centerized-configuration-spec : {M : Type 1} → stated.statement M
@@ -236,7 +243,8 @@ unfolding code.routine tablesOf
 normalize-centerized-configuration-spec 𝓤 H 𝓜 𝓖 𝓡 =
     let c = tables 𝓤 H 𝓜 𝓡 code.env in
     let core = Core 𝓤 H (𝓖 .A) (𝓜 .mem) (𝓡 .run) in
-    entered 𝓤 H (tripleOf 𝓤 H (𝓖 .A) f.signature (f.spec 𝓤 H (𝓖 .A) (𝓜 .mem) (𝓡 .run))) (c .C) (c .Λ) #motion·normalize
+    entered 𝓤 H (tripleOf 𝓤 H (𝓖 .A) f.signature (f.spec 𝓤 H (𝓖 .A) (𝓜 .mem) (𝓡 .run)))
+    (c .C) (c .Λ) #motion·normalize
     code.function (code.unfolded 𝓤 H 𝓜 𝓡)
     (meets 𝓤 H (𝓖 .A) (𝓜 .mem) (𝓡 .run) (givenOf 𝓤 H 𝓜 𝓖) (tablesOf 𝓤 H 𝓜 c)
     (cited 𝓤 H core 𝓜 𝓡 code.env #motion·scaled-pair core-def.routine code.calls-motion·scaling·scaled-pair

@@ -1,8 +1,8 @@
--- `walk_test::number` takes the bits of no NaN. Assumes nothing.
+-- `walk_test::line::number` takes the bits of no NaN. Assumes nothing.
 use borrow.Author.Needs.{needs}
 use Rattle.number.proofs.NoNan.{no-nan-ne}
-use Rattle.walk_test.proofs.number.Statement.{statement}
-use Rattle.walk_test.proofs.number.Tie as tie
+use Rattle.walk_test.proofs.line.number.Statement.{statement}
+use Rattle.walk_test.proofs.line.number.Tie as tie
 
 float-to-bits-hex : tie.Need-float-to-bits-hex
 float-to-bits-hex c = no-nan-ne _ (c .if1 .left)
