@@ -64,7 +64,7 @@ fn put_answer(out: &mut [u8], at: usize, answer: Answer, probes: u32, halvings: 
 }
 
 // The line of pair `index`, whose safe time this is.
-pub fn put_line(out: &mut [u8], at: usize, index: u32, safe: SafeTime) -> usize
+pub(crate) fn put_line(out: &mut [u8], at: usize, index: u32, safe: SafeTime) -> usize
     requires { ⌜ at < 0x400_0000 ⌝ }
     ensures { λ r. ⌜ Put (now (out .entry)) at (Def.line index safe) (now (out .exit)) r × (r ≤ at + 51) ⌝ }
 {

@@ -7,7 +7,7 @@ ghost use lib.ListN.{length};
 ghost use Rattle.listing.specs.Text.{Put};
 ghost use Rattle.listing.specs.Text as Def;
 
-pub fn put(out: &mut [u8], at: usize, b: u8) -> usize
+pub(crate) fn put(out: &mut [u8], at: usize, b: u8) -> usize
     requires { ⌜ at < 0x1_0000_0000 ⌝ }
     ensures { λ r. ⌜ Put (now (out .entry)) at (b ∷ []) (now (out .exit)) r × (r ≤ at + 1) ⌝ }
 {
@@ -17,7 +17,7 @@ pub fn put(out: &mut [u8], at: usize, b: u8) -> usize
     at + 1
 }
 
-pub fn put_text(out: &mut [u8], at: usize, text: &[u8]) -> usize
+pub(crate) fn put_text(out: &mut [u8], at: usize, text: &[u8]) -> usize
     requires { ⌜ (at < 0x1000_0000) × (length (now text) < 0x1000_0000) ⌝ }
     ensures { λ r. ⌜ Put (now (out .entry)) at (now (text .entry)) (now (out .exit)) r ⌝ }
 {
@@ -62,7 +62,7 @@ fn put_upper(out: &mut [u8], at: usize, n: u32) -> usize
 }
 
 // The decimal digits of n, none of them a zero in front.
-pub fn put_decimal(out: &mut [u8], at: usize, n: u32) -> usize
+pub(crate) fn put_decimal(out: &mut [u8], at: usize, n: u32) -> usize
     requires { ⌜ at < 0x7fff_0000 ⌝ }
     ensures { λ r. ⌜ Put (now (out .entry)) at (Def.decimal n) (now (out .exit)) r × (r ≤ at + 10) ⌝ }
 {
@@ -105,7 +105,7 @@ fn put_four_hex(out: &mut [u8], at: usize, n: u32) -> usize
 }
 
 // The eight hexadecimal digits of a word.
-pub fn put_hex(out: &mut [u8], at: usize, n: u32) -> usize
+pub(crate) fn put_hex(out: &mut [u8], at: usize, n: u32) -> usize
     requires { ⌜ at < 0x7fff_0000 ⌝ }
     ensures { λ r. ⌜ Put (now (out .entry)) at (Def.hex n) (now (out .exit)) r × (r ≤ at + 8) ⌝ }
 {

@@ -35,7 +35,7 @@ fn reach_column(most: f32, v: [f32; 3], d: [f32; 3], max_t: f32) -> f32
 }
 
 // The largest size over the twelve places, at time 0 and at max_t.
-pub fn max_entry(x: [[f32; 3]; 4], dx: [[f32; 3]; 4], max_t: f32) -> f32
+pub(crate) fn max_entry(x: [[f32; 3]; 4], dx: [[f32; 3]; 4], max_t: f32) -> f32
     ensures { λ r. ⌜ r ≡ Def.maxEntry x dx «max_t» ⌝ }
 {
     let mut most = 0.0;
@@ -48,14 +48,14 @@ pub fn max_entry(x: [[f32; 3]; 4], dx: [[f32; 3]; 4], max_t: f32) -> f32
 }
 
 // A first factor that can be used: finite and above zero.
-pub fn usable(f: f32) -> bool
+pub(crate) fn usable(f: f32) -> bool
     ensures { λ r. ⌜ r ≡ Def.usable f ⌝ }
 {
     range::is_finite(f) & (0.0 < f)
 }
 
 // f > 8 is taken apart into factors of 8 and a last one.
-pub fn eighths(f: f32) -> Factors
+pub(crate) fn eighths(f: f32) -> Factors
     requires { ⌜ isFinite f ≡ true ⌝ }
     ensures { λ r. ⌜ r ≡ Def.factorsOf f ⌝ }
 {
@@ -75,7 +75,7 @@ pub fn eighths(f: f32) -> Factors
 }
 
 // Four points times all the factors.
-pub fn scaled_by(x: [[f32; 3]; 4], by: Factors) -> [[f32; 3]; 4]
+pub(crate) fn scaled_by(x: [[f32; 3]; 4], by: Factors) -> [[f32; 3]; 4]
     ensures { λ r. ⌜ r ≡ Def.scaledBy by x ⌝ }
 {
     let n = by.eights;

@@ -5,41 +5,41 @@ ghost use Rattle.scene.specs.Layout as Def;
 use crate::words::word;
 
 // The displacements, with their count.
-pub fn displacements_at(points: u32) -> usize
+pub(crate) fn displacements_at(points: u32) -> usize
     ensures { λ r. ⌜ (r ≡ Def.displacementsAt points) × (r < 0x10_0000_0000) ⌝ }
 {
     4 + 12 * (points as usize)
 }
 
 // The pairs, with their count.
-pub fn pairs_at(points: u32) -> usize
+pub(crate) fn pairs_at(points: u32) -> usize
     ensures { λ r. ⌜ (r ≡ Def.pairsAt points) × (r < 0x20_0000_0000) ⌝ }
 {
     8 + 24 * (points as usize)
 }
 
 // Pair `index`, with its kind; the limits, with their count, stand after the last pair.
-pub fn pair_at(points: u32, index: u32) -> usize
+pub(crate) fn pair_at(points: u32, index: u32) -> usize
     ensures { λ r. ⌜ (r ≡ Def.pairAt points index) × (r < 0x40_0000_0000) ⌝ }
 {
     12 + 24 * (points as usize) + 20 * (index as usize)
 }
 
 // How many points and how many pairs the file says that it has.
-pub fn point_count(s: &[u8]) -> u32
+pub(crate) fn point_count(s: &[u8]) -> u32
     ensures { λ r. ⌜ r ≡ Def.pointCount (now (s .entry)) ⌝ }
 {
     word(s, 0)
 }
 
-pub fn pair_count(s: &[u8]) -> u32
+pub(crate) fn pair_count(s: &[u8]) -> u32
     ensures { λ r. ⌜ r ≡ Def.pairCount (now (s .entry)) ⌝ }
 {
     word(s, pairs_at(point_count(s)))
 }
 
 // Where the limits stand.
-pub fn limits_at(s: &[u8]) -> usize
+pub(crate) fn limits_at(s: &[u8]) -> usize
     ensures { λ r. ⌜ (r ≡ Def.limitsAt (Def.pointCount (now (s .entry))) (Def.pairCount (now (s .entry))))
         × (r < 0x40_0000_0000) ⌝ }
 {

@@ -19,7 +19,7 @@ fn byte(s: &[u8], at: usize) -> u32
 }
 
 // The word at byte `at`.
-pub fn word(s: &[u8], at: usize) -> u32
+pub(crate) fn word(s: &[u8], at: usize) -> u32
     requires { ⌜ at < 0x100_0000_0000 ⌝ }
     ensures { λ r. ⌜ r ≡ Def.word (now (s .entry)) at ⌝ }
 {
@@ -38,7 +38,7 @@ fn number_of(bits: u32) -> f32
 }
 
 // The number at byte `at`.
-pub fn number(s: &[u8], at: usize) -> f32
+pub(crate) fn number(s: &[u8], at: usize) -> f32
     requires { ⌜ at < 0x100_0000_0000 ⌝ }
     ensures { λ r. ⌜ r ≡ Def.number (now (s .entry)) at ⌝ }
 {
@@ -46,7 +46,7 @@ pub fn number(s: &[u8], at: usize) -> f32
 }
 
 // Three numbers from byte `at` on.
-pub fn point(s: &[u8], at: usize) -> [f32; 3]
+pub(crate) fn point(s: &[u8], at: usize) -> [f32; 3]
     requires { ⌜ at < 0xff_0000_0000 ⌝ }
     ensures { λ r. ⌜ r ≡ Def.point (now (s .entry)) at ⌝ }
 {
