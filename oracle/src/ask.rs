@@ -4,7 +4,7 @@ use std::process::{Child, Command, Stdio};
 use std::thread::sleep;
 use std::time::Duration;
 
-use crate::calls::{hex, Call, Function, Words};
+use crate::calls::{hex, Call};
 use crate::examples::EXAMPLES;
 use crate::judge::{judged, Relation, ENTRIES};
 use crate::sides::{by_original, Outcome};
@@ -12,15 +12,9 @@ use crate::sides::{by_original, Outcome};
 /// How long the original may take, in tenths of a second.
 const PATIENCE: u32 = 30;
 
-/// A call from the name of its function and its words.
-fn call_of(text: &str) -> Call {
-    let (name, arguments) = text.split_once(' ').unwrap_or((text, ""));
-    Call::new(Function::named(name), Words::from_hex(arguments))
-}
-
 /// Prints the original's answer.
 pub fn original(text: &str) {
-    match by_original(&call_of(text)) {
+    match by_original(&Call::from_text(text)) {
         Outcome::Answered(words) => println!("{}", hex(words.as_slice())),
         Outcome::Stopped => println!("stops"),
     }
@@ -28,7 +22,7 @@ pub fn original(text: &str) {
 
 /// Prints a call with both answers, and answers how they stand to each other.
 pub fn ask(text: &str) -> Relation {
-    let asked = judged(call_of(text));
+    let asked = judged(Call::from_text(text));
     println!("{}", asked.call.hex());
     println!("  the rules    {}", hex(asked.expected.as_slice()));
     println!("  the original {}", in_child(text));

@@ -165,6 +165,12 @@ impl Call {
         Call { function, arguments }
     }
 
+    /// A call from the name of its function and its words in hex.
+    pub fn from_text(text: &str) -> Call {
+        let (name, arguments) = text.split_once(' ').unwrap_or((text, ""));
+        Call::new(Function::named(name), Words::from_hex(arguments))
+    }
+
     /// Appends the call.
     pub fn encode(&self, to: &mut Vec<u8>) {
         to.extend(self.function.number().to_le_bytes());

@@ -1,4 +1,5 @@
-//! A run: calls from one seed, each judged, and a program's answers over pipes held to what is expected.
+//! A run: the corners of the rules, the calls that every run makes, and calls from one seed, each judged, and a program's
+//! answers over pipes held to what is expected.
 
 use std::io::{Read, Write};
 use std::process::{Child, Command, Stdio};
@@ -6,11 +7,13 @@ use std::sync::mpsc::{sync_channel, Receiver};
 use std::thread;
 
 use crate::calls::{answer_from, Call, Function, Packer};
+use crate::corners;
 use crate::generate::Source;
 use crate::judge::{judged, Judged};
 use crate::tally::Tally;
 
-/// Which calls a run makes: so many from a seed, of the functions named alone where some are.
+/// Which calls a run makes: the corners and the listed ones, then so many from a seed; of the functions named alone where
+/// some are.
 pub struct Plan {
     pub seed: u64,
     pub calls: u64,
@@ -21,15 +24,16 @@ impl Plan {
     fn calls(&self) -> impl Iterator<Item = Call> + '_ {
         let mut source = Source::new(self.seed);
         let chosen = move |call: &Call| self.only.is_empty() || self.only.contains(&call.function);
-        (0..self.calls).map(move |_| source.call()).filter(chosen)
+        let listed = corners::calls().chain(source.listed());
+        listed.chain((0..self.calls).map(move |_| source.call())).filter(chosen)
     }
 }
 
 /// How many blocks may be under way.
 const UNDER_WAY: usize = 8;
 
-/// A run with what it met printed. Answers whether all is well: no difference, and nothing left out that a run of every
-/// function can meet.
+/// A run with what it met printed. Answers whether all is well: no difference, every corner as it is listed, and nothing
+/// left out that a run of every function can meet.
 pub fn report(plan: &Plan, program: &[String]) -> bool {
     let tally = if program.is_empty() { run(plan) } else { run_program(plan, program, false, false) };
     tally.print();
@@ -39,7 +43,7 @@ pub fn report(plan: &Plan, program: &[String]) -> bool {
     }
     let differences = tally.differences();
     println!("seed {}, {} calls: {differences} differences, {} not met", plan.seed, tally.calls(), missing.len());
-    differences == 0 && missing.is_empty()
+    corners::hold() && differences == 0 && missing.is_empty()
 }
 
 /// The original against the model, with no program.

@@ -4,6 +4,7 @@
 mod ask;
 mod calls;
 mod compare;
+mod corners;
 mod cover;
 mod examples;
 mod faults;

@@ -2,7 +2,8 @@
 //! allowed"), and in which ways one can be outside of it: for the generator, and to see that a run met each way at each
 //! place.
 
-use crate::calls::{Call, Function};
+use crate::calls::{Call, Function, NAN};
+use crate::generate::neighbour;
 
 pub enum Allowed {
     /// 2 or 3.
@@ -37,6 +38,18 @@ pub fn ways(function: Function, place: usize) -> &'static [usize] {
         Allowed::Split => &[2, 3],
         Allowed::Number(_, f32::MAX) => &[0, 1, 2],
         Allowed::Number(..) => &[0, 1, 2, 3],
+    }
+}
+
+/// The word that is outside in this way, and only just.
+pub fn just_outside(function: Function, place: usize, way: usize) -> u32 {
+    match (allowed(function, place), WAYS[way]) {
+        (Allowed::Split, "below") => 1,
+        (Allowed::Split, _) => 4,
+        (Allowed::Number(..), "NaN") => NAN,
+        (Allowed::Number(..), "infinite") => f32::INFINITY.to_bits(),
+        (Allowed::Number(low, _), "below") => neighbour(low, -1).to_bits(),
+        (Allowed::Number(_, high), _) => neighbour(high, 1).to_bits(),
     }
 }
 

@@ -7,25 +7,25 @@ use number::range::in_limit;
 use number::range::is_finite;
 use number::range::zero_to_limit;
 
-pub fn finite_quadratic(c0: f32, c1: f32, c2: f32) -> bool
+pub(crate) fn finite_quadratic(c0: f32, c1: f32, c2: f32) -> bool
     ensures { λ b. ⌜ b ≡ Def.finiteQuadratic c0 c1 c2 ⌝ }
 {
     is_finite(c0) & is_finite(c1) & is_finite(c2)
 }
 
-pub fn allowed_quadratic(c0: f32, c1: f32, c2: f32) -> bool
+pub(crate) fn allowed_quadratic(c0: f32, c1: f32, c2: f32) -> bool
     ensures { λ b. ⌜ b ≡ Def.allowedQuadratic c0 c1 c2 ⌝ }
 {
     in_limit(c0) & in_limit(c1) & in_limit(c2)
 }
 
-pub fn finite_cubic(p: Cubic, t: f32, epsilon: f32) -> bool
+pub(crate) fn finite_cubic(p: Cubic, t: f32, epsilon: f32) -> bool
     ensures { λ b. ⌜ b ≡ Def.finiteCubic p t epsilon ⌝ }
 {
     finite_quadratic(p.c0, p.c1, p.c2) & is_finite(p.c3) & is_finite(t) & is_finite(epsilon)
 }
 
-pub fn allowed_cubic(p: Cubic, t: f32, epsilon: f32) -> bool
+pub(crate) fn allowed_cubic(p: Cubic, t: f32, epsilon: f32) -> bool
     ensures { λ b. ⌜ b ≡ Def.allowedCubic p t epsilon ⌝ }
 {
     allowed_quadratic(p.c0, p.c1, p.c2)

@@ -103,7 +103,7 @@ fn span_roots(p: Cubic, t: f32, epsilon: f32, s: Solved) -> Roots
 }
 
 // By degree; the slope is c1 + 2 c2 x + 3 c3 x².
-pub fn cubic_roots(p: Cubic, t: f32, epsilon: f32) -> Roots
+pub(crate) fn cubic_roots(p: Cubic, t: f32, epsilon: f32) -> Roots
     ensures { λ r. ⌜ r ≡ Def.cubicRoots p t epsilon ⌝ }
 {
     if vanishes(p.c3) {

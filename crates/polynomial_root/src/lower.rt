@@ -12,7 +12,7 @@ use crate::quadratic::solve;
 use number::order::size;
 
 // A coefficient counts as zero where its size is below 2^-23.
-pub fn vanishes(c: f32) -> bool
+pub(crate) fn vanishes(c: f32) -> bool
     ensures { λ b. ⌜ b ≡ Def.vanishes c ⌝ }
 {
     size(c) < 1.1920929e-7
@@ -60,7 +60,7 @@ fn kept_roots(t: f32, s: Solved) -> Roots
 }
 
 // By degree, where c3 counts as zero.
-pub fn lower_roots(p: Cubic, t: f32) -> Roots
+pub(crate) fn lower_roots(p: Cubic, t: f32) -> Roots
     ensures { λ r. ⌜ r ≡ Def.lowerRoots p t ⌝ }
 {
     if vanishes(p.c2) {

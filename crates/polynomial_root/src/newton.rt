@@ -12,20 +12,20 @@ pub enum Found {
     Refused(u32),
 }
 
-pub fn value_at(p: Cubic, r: f32) -> f32
+pub(crate) fn value_at(p: Cubic, r: f32) -> f32
     ensures { λ v. ⌜ v ≡ Def.valueAt p r ⌝ }
 {
     ((p.c3 * r + p.c2) * r + p.c1) * r + p.c0
 }
 
-pub fn slope_at(p: Cubic, r: f32) -> f32
+pub(crate) fn slope_at(p: Cubic, r: f32) -> f32
     ensures { λ v. ⌜ v ≡ Def.slopeAt p r ⌝ }
 {
     p.c1 + 2.0 * p.c2 * r + 3.0 * p.c3 * r * r
 }
 
 // At most twenty steps from r, held to 0..t, until the value's size is below epsilon.
-pub fn descend(p: Cubic, t: f32, epsilon: f32, guess: f32) -> Found
+pub(crate) fn descend(p: Cubic, t: f32, epsilon: f32, guess: f32) -> Found
     ensures { λ f. ⌜ f ≡ Def.descend p t epsilon 20 guess ⌝ }
 {
     let mut r = guess;

@@ -38,7 +38,7 @@ fn stable(c1: f32, d: f32) -> f32
 }
 
 // The roots of c0 + c1 x + c2 x².
-pub fn solve(c0: f32, c1: f32, c2: f32) -> Solved
+pub(crate) fn solve(c0: f32, c1: f32, c2: f32) -> Solved
     ensures { λ r. ⌜ r ≡ Def.solved c0 c1 c2 ⌝ }
 {
     let d = c1 * c1 - 4.0 * c2 * c0;
@@ -55,7 +55,7 @@ pub fn solve(c0: f32, c1: f32, c2: f32) -> Solved
 }
 
 // The roots as an answer.
-pub fn all_roots(s: Solved) -> Roots
+pub(crate) fn all_roots(s: Solved) -> Roots
     ensures { λ r. ⌜ r ≡ Called.solvedRoots s ⌝ }
 {
     match s {

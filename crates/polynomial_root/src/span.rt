@@ -12,7 +12,7 @@ pub struct End {
     pub f: f32,
 }
 
-pub fn end_at(p: Cubic, x: f32) -> End
+pub(crate) fn end_at(p: Cubic, x: f32) -> End
     ensures { λ e. ⌜ e ≡ Def.endAt p x ⌝ }
 {
     End {
@@ -33,7 +33,7 @@ fn started(p: Cubic, t: f32, epsilon: f32, guess: f32) -> Found
 }
 
 // The root between two ends: none where the values lie on one side of zero.
-pub fn span_root(p: Cubic, t: f32, epsilon: f32, a: End, b: End) -> Found
+pub(crate) fn span_root(p: Cubic, t: f32, epsilon: f32, a: End, b: End) -> Found
     ensures { λ f. ⌜ f ≡ Def.spanRoot p t epsilon a b ⌝ }
 {
     let fa = a.f;

@@ -9,10 +9,11 @@ mod safe_times;
 
 pub use numbers::Source;
 
-use crate::calls::{Call, Function, Words, NAN};
+use crate::calls::{Call, Function, Words, FUNCTIONS, NAN};
 use crate::model::Points;
-use crate::outside::{allowed, Allowed};
-use numbers::{neighbour, power_of_two};
+use crate::outside::{allowed, just_outside, ways, Allowed};
+pub use numbers::neighbour;
+use numbers::power_of_two;
 
 /// How many of a thousand calls are of each function, in the order of their numbers.
 const SHARES: [u32; 12] = [20, 10, 10, 20, 15, 65, 30, 110, 60, 500, 40, 120];
@@ -26,7 +27,7 @@ impl Source {
             place -= SHARES[function];
             function += 1;
         }
-        self.call_of(crate::calls::FUNCTIONS[function])
+        self.call_of(FUNCTIONS[function])
     }
 
     /// The next call of one function.
@@ -36,6 +37,22 @@ impl Source {
             self.spoil(&mut call);
         }
         call
+    }
+
+    /// What every run asks, however short: the rare inputs, and for each function, each place of its arguments and each
+    /// way of being outside there, a call in which all else is allowed.
+    pub fn listed(&mut self) -> Vec<Call> {
+        let mut calls: Vec<Call> = rare::calls().collect();
+        for function in FUNCTIONS {
+            for place in 0..function.arguments() {
+                for &way in ways(function, place) {
+                    let mut call = Call::new(function, self.allowed(function));
+                    call.arguments.set(place, just_outside(function, place, way));
+                    calls.push(call);
+                }
+            }
+        }
+        calls
     }
 
     fn split(&mut self) -> u32 {

@@ -1,5 +1,15 @@
 //! Inputs found once that meet branches which random ones hardly ever meet, each as the words of its arguments.
 
+use crate::calls::{Call, Function, Words};
+
+/// All of them as calls.
+pub fn calls() -> impl Iterator<Item = Call> {
+    let of = |function: Function| move |words: &&str| Call::new(function, Words::from_hex(words));
+    let polynomials = POLYNOMIALS.iter().map(of(Function::CubicRoots));
+    let motions = MOTIONS.iter().map(of(Function::CoplanarTime));
+    polynomials.chain(motions).chain(SAFE_TIMES.iter().map(of(Function::SafeTime)))
+}
+
 /// c0, c1, c2, c3, t and epsilon.
 pub const POLYNOMIALS: [&str; 5] = [
     // both values of a span are zero
@@ -11,6 +21,13 @@ pub const POLYNOMIALS: [&str; 5] = [
     // linear, both values zero: by underflow, and by what is left of the higher coefficients
     "0 34000000 0 0 1 0",
     "0 b4000001 8078c677 89c8ca1a 1 3f800000",
+];
+
+/// Twelve coordinates and twelve displacements.
+const MOTIONS: [&str; 1] = [
+    // coplanar times whose cubic is zero at both ends of a span
+    "0 ab65e559 8e6de3e0 38a 8002520c 5070 17561f 16dae3cc 0 4870d35 0 0 \
+     4f2aa3c ac94770f a97d4e3c 80004330 0 c782bfe7 43a63091 140f4bc3 bd8354b0 800eec9f 13d216c5 abc99dab",
 ];
 
 /// Twelve coordinates, twelve displacements, the split, offset, clearance, max_t and u_max.
