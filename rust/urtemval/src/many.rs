@@ -33,7 +33,8 @@ const SHARE: usize = 128;
 /// The safe times of any number of pairs, in their order: what [`Query::safe_time`] answers for each.
 ///
 /// The work is shared out among as many threads as the machine runs at once; the calling thread is one of them. A pair
-/// that is refused does not stop the others. The answers do not depend on the number of threads.
+/// that is refused does not stop the others. The answers do not depend on the number of threads. A move of all pairs is
+/// cut by the smallest of the times.
 ///
 /// ```
 /// use urtemval::{safe_times, Answer, Limits, Query, Refusal, Split};
