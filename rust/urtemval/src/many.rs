@@ -27,7 +27,7 @@ impl Query {
 }
 
 /// How many pairs a thread takes at a time: enough that taking them costs nothing beside them, few enough that the
-/// threads end at nearly the same time, though some pairs take a hundred times as long as others.
+/// threads end at nearly the same time, though some pairs take thousands of times as long as others.
 const SHARE: usize = 128;
 
 /// The safe times of any number of pairs, in their order: what [`Query::safe_time`] answers for each.
