@@ -19,7 +19,8 @@ int main(void)
         printf("the speed is refused: %u\n", (unsigned)speed.refusal);
         return 1;
     }
-    UrtemvalLimits limits = {0.125f, 0.125f, 1, speed.value}; /* offset, clearance, max_t, u_max */
+    float u_max = speed.value < 0x1p-60f ? 0x1p-60f : speed.value; /* of a pair at rest the speed is 0 */
+    UrtemvalLimits limits = {0.125f, 0.125f, 1, u_max}; /* offset, clearance, max_t, u_max */
     UrtemvalSafeTime safe = urtemval_safe_time(&x0, &dx, URTEMVAL_FACE_VERTEX, limits);
     if (safe.refusal != 0) {
         printf("the safe time is refused: %u\n", (unsigned)safe.refusal);

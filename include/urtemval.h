@@ -3,7 +3,7 @@
  *
  * Four points, their displacements and a split make a pair. With split 2, points 0 and 1 are one edge and points 2
  * and 3 the other; with split 3, points 0 to 2 are a face and point 3 is a vertex. docs/01-scope.md has the exact
- * rules.
+ * rules, docs/GUARANTEES.md what is promised and what is not.
  *
  * Of every function here:
  * - It answers whatever numbers it is given: what is not allowed is refused, by the first field of the answer.
@@ -15,6 +15,24 @@
  *   numbers too small to be normal not flushed to zero (MXCSR: RC = 0, FTZ = 0, DAZ = 0), exceptions masked. A thread
  *   that has changed it, as -ffast-math does at the start of a program, has to set it back before a call.
  * - A NaN is a NaN: its sign and its other bits are not told apart.
+ *
+ * What a solver has to mind that cuts its moves by safe times:
+ * - One time is for the whole pair: what is said of it holds where its four points all move by the same t. Cut the
+ *   whole move by the smallest time of all its pairs. Cutting each point by the smallest time of its own pairs is not
+ *   covered: a sheet that a floor stops at 0.4, and a point that falls with the sheet and is clear of it at 1, end with
+ *   the point below the sheet.
+ * - Leave out pairs whose two sides share a point. Their distance is 0, up to rounding: they are answered as touching,
+ *   or with an offset of 0 sometimes refused by 3.
+ * - Take u_max from the pair's own displacements, and not below 2^-60, which is what a pair at rest needs:
+ *   fmaxf(norm, 0x1p-60f), with the norm of urtemval_max_relative_norm. Too small a u_max lets pairs pass through each
+ *   other, and they are answered as clear.
+ * - Move the points as the library does: x + t * dx, the product rounded to float and then the sum. A compiler may fuse
+ *   the two unless it is told not to (-ffp-contract=off); then the points are others than those that the answer is
+ *   about.
+ * - Contact stops just beyond park = offset + clearance; steps aim at dip = offset + clearance / 2. At the end of a
+ *   clear move, or of a move that another pair's time cuts, a pair may be anywhere from dip up (rounding aside). The
+ *   next call may then refuse it by 3, or find it touching.
+ * - Centring and scaling a pair changes its limits, too: see urtemval_scale_pair.
  *
  * The archive liburtemval.a holds code for x86-64 Linux, needs no other library, and may be linked into executables and
  * shared libraries, position-independent or not.
@@ -49,11 +67,11 @@ enum {
 
 /* How a safe time ends: UrtemvalSafeTime.kind. */
 enum {
-    URTEMVAL_TOUCHING = 0, /* the pair touches already, and may not move: the time is 0 */
-    URTEMVAL_CONTACT = 1,  /* the pair may move to this time, and not to the next float */
-    URTEMVAL_CLEAR = 2,    /* nothing was met: the time is the time limit */
-    URTEMVAL_BUDGET = 3,   /* the pair may move to this time, at which the call stopped looking */
-    URTEMVAL_REFUSED = 4   /* no answer: the refusal says why */
+    URTEMVAL_TOUCHING = 0, /* the pair starts at the offset or nearer, or exactly at park: the time is 0 */
+    URTEMVAL_CONTACT = 1,  /* beyond park at this time, and at the next float not */
+    URTEMVAL_CLEAR = 2,    /* beyond park at every time that was tried: the time is the time limit */
+    URTEMVAL_BUDGET = 3,   /* beyond park at this time, at which the call stopped looking */
+    URTEMVAL_REFUSED = 4   /* no time: the refusal says why */
 };
 
 /*
@@ -79,8 +97,8 @@ typedef struct UrtemvalPoints {
 
 /* What a safe time is asked with, beside the pair. */
 typedef struct UrtemvalLimits {
-    float offset;    /* how near the two sides count as touching: 0 to 2^20 */
-    float clearance; /* how much further apart they are to stay: 0 to 2^20 */
+    float offset;    /* at this distance, or nearer, the two sides count as touching: 0 to 2^20 */
+    float clearance; /* contact stops beyond offset + clearance, steps aim at offset + clearance / 2: 0 to 2^20 */
     float max_t;     /* the time limit: 0 to 1, the end of the displacements */
     float u_max;     /* no point of one side comes nearer to one of the other faster than this: 2^-60 to 2^60 */
 } UrtemvalLimits;
@@ -118,16 +136,20 @@ typedef struct UrtemvalValue {
 /*
  * How far along the move dx the pair at x0 may go.
  *
- * With d(t) the computed squared distance at time t, and park = offset + clearance, the kinds and their times are
- * - touching, 0: d is at most offset^2 at the start, or exactly park^2;
+ * With d(t) the computed squared distance of the points x0 + t dx, and park = offset + clearance, the kinds and their
+ * times are
+ * - touching, 0: d is at most offset^2 at the start, or exactly park^2. The time is 0 whatever dx is, also where the
+ *   pair moves apart, and asking again answers the same: part such a pair by other means, or leave it out;
  * - contact, t: d(t) exceeds park^2, and at the next float after t, which is within the limit, d does not;
- * - clear, max_t: d exceeds park^2 at the start and at every time that was tried;
+ * - clear, max_t: d exceeds park^2 at the start and at every time that was tried. max_t need not be one of them: the
+ *   pair may end nearer than park;
  * - budget, t: d(t) exceeds park^2, and 4096 times were tried.
- * Nothing is said of times that were not tried (docs/GUARANTEES.md).
- * The norm of the displacements, urtemval_max_relative_norm of dx, is a right u_max.
+ * Nothing is said of times that were not tried (docs/GUARANTEES.md). The top of this file says what a solver has to
+ * mind, u_max above all.
  *
  * Refusals: 1 some number is NaN or an infinity; 2 one lies beyond its range, or the split is neither 2 nor 3; 3 the
- * pair starts with d above offset^2 and below park^2.
+ * pair starts with d above offset^2 and below park^2. A pair that a clear move, or a move cut by another pair's time,
+ * has left there starts beyond park again if it is asked with half the clearance, rounding aside.
  */
 UrtemvalSafeTime urtemval_safe_time(const UrtemvalPoints *x0, const UrtemvalPoints *dx, size_t split,
                                     UrtemvalLimits limits) URTEMVAL_NOEXCEPT;
@@ -141,7 +163,7 @@ UrtemvalDistance urtemval_squared_distance(const UrtemvalPoints *x, size_t split
 
 /*
  * The largest distance between a point before the split and a point from it on. Of displacements it is the greatest
- * relative speed: u_max of a safe time, where it is not below 2^-60.
+ * relative speed: u_max of a safe time, where it is not below 2^-60 (of a pair at rest it is 0).
  *
  * Refusals: 1 some number is NaN or an infinity; 2 one lies beyond its range, or the split is neither 2 nor 3.
  */
@@ -150,6 +172,11 @@ UrtemvalValue urtemval_max_relative_norm(const UrtemvalPoints *x, size_t split) 
 /*
  * Multiplies the lent points x and displacements dx so that the largest entry of x, and of x + max_t dx, is about 0.99,
  * and answers the factor. A refused call leaves both as they were, bit for bit. max_t: 0 to 1.
+ *
+ * Ask for a safe time of the scaled pair with offset and clearance multiplied by the factor, and with u_max taken anew
+ * from the scaled dx: the old u_max is too small where the factor is above 1, and lets pairs pass through. The time
+ * then holds for the pair as it was up to rounding only. To centre a pair first, subtract the mean of its four points
+ * from each of them; displacements are differences, and stay.
  *
  * Refusals: 1 some number is NaN or an infinity; 2 one lies beyond its range; 4 there is no finite factor above 0 (all
  * entries are zero, or too small); 5 some scaled number would not be finite.

@@ -1,5 +1,5 @@
 //! How far may a corner fall towards a face? `cargo run --example safe_time`
-use urtemval::{max_relative_norm, safe_time, Answer, Limits, Refusal, Split};
+use urtemval::{max_relative_norm, safe_time, Answer, Limits, Refusal, Split, LEAST_U_MAX};
 
 fn main() -> Result<(), Refusal> {
     // a face on the floor, and a corner one unit above it that falls by two
@@ -15,7 +15,7 @@ fn main() -> Result<(), Refusal> {
         offset: 0.125,
         clearance: 0.125,
         max_t: 1.0,
-        u_max: max_relative_norm(&dx, Split::FaceVertex)?,
+        u_max: max_relative_norm(&dx, Split::FaceVertex)?.max(LEAST_U_MAX),
     };
     let safe = safe_time(&x0, &dx, Split::FaceVertex, limits)?;
     let kind = match safe.answer {

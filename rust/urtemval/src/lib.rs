@@ -3,10 +3,10 @@
 //! A drape solver proposes a move for every point of a mesh. For a face and a point, or for two edges, [`safe_time`]
 //! answers the time from 0 to 1 at which the move has to be cut, in single precision. This crate is a thin layer over
 //! a library that is proved, function by function, to answer what its rules say (docs/01-scope.md), for every input:
-//! what is not allowed is refused with a reason, every call ends, and no call panics.
+//! what is not allowed is refused with a reason, and every call ends.
 //!
 //! ```
-//! use urtemval::{max_relative_norm, safe_time, Answer, Limits, Split};
+//! use urtemval::{max_relative_norm, safe_time, Answer, Limits, Split, LEAST_U_MAX};
 //!
 //! // Two crossing edges, half a unit apart; the upper one falls by 1.
 //! let x0 = [[-1.0, 0.0, 0.0], [1.0, 0.0, 0.0], [0.0, -1.0, 0.5], [0.0, 1.0, 0.5]];
@@ -15,7 +15,7 @@
 //!     offset: 0.0,
 //!     clearance: 0.25,
 //!     max_t: 1.0,
-//!     u_max: max_relative_norm(&dx, Split::EdgeEdge)?,
+//!     u_max: max_relative_norm(&dx, Split::EdgeEdge)?.max(LEAST_U_MAX),
 //! };
 //! match safe_time(&x0, &dx, Split::EdgeEdge, limits)?.answer {
 //!     Answer::Contact(t) => assert!(0.2499 < t && t < 0.25),
@@ -26,6 +26,30 @@
 //!
 //! Everything here may be called from many threads at once, and [`safe_times`] asks for many pairs by as many threads
 //! as the machine runs.
+//!
+//! # In a solver
+//!
+//! - **One time is for the whole pair.** What is said of it holds where its four points all move by the same t. Cut the
+//!   whole move by the smallest time of all pairs. Cutting each point by the smallest time of its own pairs is not
+//!   covered: a sheet that a floor stops at 0.4, and a point that falls with the sheet and is clear of it at 1, end
+//!   with the point below the sheet.
+//! - **Leave out pairs whose sides share a point.** Their distance is 0, up to rounding: they are touching, or with an
+//!   offset of 0 sometimes [`Refusal::TooClose`].
+//! - **`u_max` must not be too small**, or pairs pass through each other and are told as clear.
+//!   `max_relative_norm(&dx, split)?.max(LEAST_U_MAX)` is right, also for a pair at rest, whose norm is 0.
+//! - **Move the points as the library does**: `x + t * dx`, the product rounded and then the sum, and not `mul_add`.
+//!   What is said of the distance at t is said of these points.
+//! - **Contact stops just beyond park = offset + clearance; steps aim at dip = offset + clearance / 2.** At the end of
+//!   a clear move, or of a move that another pair's time cuts, a pair may be anywhere from dip up, and the next call
+//!   may find it too close ([`Refusal::TooClose`]) or touching.
+//! - **Centring and scaling** ([`scale_pair`]) change the limits of a pair, too.
+//!
+//! docs/GUARANTEES.md says all of it in full: what is proved, what is measured, and what is not promised.
+//!
+//! # Panics
+//!
+//! A refusal's number, a kind of safe time or a count of roots that this crate does not know comes from an archive of
+//! another version: the call panics with a message that says so. No call panics otherwise.
 //!
 //! # Numbers allowed
 //!
@@ -59,11 +83,14 @@ mod refusal;
 pub use many::{safe_times, Query};
 pub use refusal::Refusal;
 
-use refusal::unless_refused;
+use refusal::{unknown, unless_refused};
 use std::ops::Deref;
 
 /// Four points of three numbers each, or as many displacements.
 pub type Points = [[f32; 3]; 4];
+
+/// The least `u_max` that is allowed, 2^-60: for a pair at rest, or nearly so.
+pub const LEAST_U_MAX: f32 = 1.0 / (1u64 << 60) as f32;
 
 /// How four points make a pair: where its second side starts.
 #[derive(Clone, Copy, Debug, PartialEq, Eq, Hash)]
@@ -79,33 +106,36 @@ pub enum Split {
 #[derive(Clone, Copy, Debug, PartialEq)]
 #[repr(C)]
 pub struct Limits {
-    /// How near the two sides count as touching.
+    /// At this distance, or nearer, the two sides count as touching.
     pub offset: f32,
-    /// How much further apart they are to stay.
+    /// What lies between the offset and park, just beyond which a contact is answered. Steps aim at its middle: on the
+    /// way, and at the end of a clear move, a pair may be anywhere from dip = offset + clearance / 2 up.
     pub clearance: f32,
     /// The time limit, at most 1: the end of the displacements.
     pub max_t: f32,
     /// No point of one side comes nearer to one of the other faster than this. [`max_relative_norm`] of the
-    /// displacements is right.
+    /// displacements is right, or [`LEAST_U_MAX`] where that is larger. Too small a number lets pairs pass through.
     pub u_max: f32,
 }
 
-/// How a safe time ends, with its time. Below, d(t) is the computed squared distance at time t, and park is
-/// offset + clearance.
+/// How a safe time ends, with its time. Below, d(t) is the computed squared distance of the points `x0 + t dx`, and
+/// park is offset + clearance. Nothing is said of d at a time that was not tried.
 #[derive(Clone, Copy, Debug, PartialEq)]
 pub enum Answer {
-    /// The pair touches at the start, and may not move: d is at most offset² there, or exactly park².
+    /// At the start d is at most offset², or exactly park². The time is 0 whatever the displacements are, also where
+    /// the pair moves apart, and asking again answers the same: such a pair is parted by other means, or left out.
     Touching,
-    /// d exceeds park² at this time, and no longer at the next `f32`.
+    /// d exceeds park² at this time, and at the next `f32` it does not.
     Contact(f32),
-    /// d exceeds park² at the start and at every time that was tried. The time is the time limit.
+    /// d exceeds park² at the start and at every time that was tried. The time is the time limit, which need not be one
+    /// of them: the pair may end nearer than park.
     Clear(f32),
     /// d exceeds park² at this time, and 4,096 times were tried.
     Budget(f32),
 }
 
 impl Answer {
-    /// The time to which the pair may move.
+    /// The time at which the pair's move is to be cut.
     #[inline]
     pub fn time(self) -> f32 {
         match self {
@@ -127,7 +157,7 @@ pub struct SafeTime {
 }
 
 impl SafeTime {
-    /// The time to which the pair may move.
+    /// The time at which the pair's move is to be cut.
     #[inline]
     pub fn time(self) -> f32 {
         self.answer.time()
@@ -167,12 +197,14 @@ impl PartialEq for Roots {
     }
 }
 
-/// How far along the move `dx` the pair at `x0` may go.
+/// How far along the move `dx` the pair at `x0` may go: [`Answer`] says what holds at the time. The crate's page says
+/// what a solver has to mind.
 ///
 /// # Errors
 ///
 /// [`Refusal::NotFinite`], [`Refusal::OutOfRange`], and [`Refusal::TooClose`] where the squared distance at the start
-/// is above offset² and below park².
+/// is above offset² and below park². A pair that a clear move, or a move cut by another pair's time, has left there
+/// starts beyond park again if it is asked with half the clearance, rounding aside.
 ///
 /// ```
 /// use urtemval::{safe_time, Answer, Limits, Refusal, Split};
@@ -196,20 +228,19 @@ pub fn safe_time(
 ) -> Result<SafeTime, Refusal> {
     // SAFETY: references are neither null nor dangling, and `x0` and `dx` are only read.
     let told = unsafe { raw::urtemval_safe_time(x0, dx, split as usize, limits) };
+    unless_refused(told.refusal, ())?;
     let answer = match told.kind {
         raw::TOUCHING => Answer::Touching,
         raw::CONTACT => Answer::Contact(told.time),
         raw::CLEAR => Answer::Clear(told.time),
-        _ => Answer::Budget(told.time),
+        raw::BUDGET => Answer::Budget(told.time),
+        kind => unknown("kind", kind),
     };
-    unless_refused(
-        told.refusal,
-        SafeTime {
-            answer,
-            probes: told.probes,
-            halvings: told.halvings,
-        },
-    )
+    Ok(SafeTime {
+        answer,
+        probes: told.probes,
+        halvings: told.halvings,
+    })
 }
 
 /// The squared distance of the two sides of `x`, with its direction and its candidate.
@@ -242,7 +273,7 @@ pub fn squared_distance(x: &Points, split: Split) -> Result<Distance, Refusal> {
 }
 
 /// The largest distance between a point of the first side and a point of the second. Of displacements it is the
-/// greatest relative speed, right for `u_max`.
+/// greatest relative speed, right for `u_max` where it is not below [`LEAST_U_MAX`].
 ///
 /// # Errors
 ///
@@ -263,6 +294,11 @@ pub fn max_relative_norm(x: &Points, split: Split) -> Result<f32, Refusal> {
 
 /// Multiplies points and displacements so that the largest entry of `x`, and of `x + max_t dx`, is about 0.99, and
 /// answers the factor. Where it is refused both stay as they were.
+///
+/// A safe time of the scaled pair is asked with offset and clearance multiplied by the factor, and with `u_max` taken
+/// anew from the scaled displacements: the old one is too small where the factor is above 1, and lets pairs pass
+/// through. The time then holds for the pair as it was up to rounding only. To centre a pair first, subtract the mean
+/// of its four points from each of them; displacements are differences, and stay.
 ///
 /// # Errors
 ///
@@ -366,11 +402,12 @@ pub fn square_root(x: f32) -> Result<f32, Refusal> {
 
 #[inline]
 fn roots(told: raw::Roots) -> Result<Roots, Refusal> {
-    unless_refused(
-        told.refusal,
-        Roots {
-            count: told.count as usize,
-            places: told.roots,
-        },
-    )
+    unless_refused(told.refusal, ())?;
+    if told.count > 3 {
+        unknown("count", told.count)
+    }
+    Ok(Roots {
+        count: told.count as usize,
+        places: told.roots,
+    })
 }

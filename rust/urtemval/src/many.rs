@@ -27,13 +27,14 @@ impl Query {
 }
 
 /// How many pairs a thread takes at a time: enough that taking them costs nothing beside them, few enough that the
-/// threads end at nearly the same time, though some pairs take a hundred times as long as others.
+/// threads end at nearly the same time, though some pairs take thousands of times as long as others.
 const SHARE: usize = 128;
 
 /// The safe times of any number of pairs, in their order: what [`Query::safe_time`] answers for each.
 ///
 /// The work is shared out among as many threads as the machine runs at once; the calling thread is one of them. A pair
-/// that is refused does not stop the others. The answers do not depend on the number of threads.
+/// that is refused does not stop the others. The answers do not depend on the number of threads. A move of all pairs is
+/// cut by the smallest of the times.
 ///
 /// ```
 /// use urtemval::{safe_times, Answer, Limits, Query, Refusal, Split};

@@ -13,7 +13,7 @@ pub enum Refusal {
     NotFinite = 1,
     /// Some number lies beyond its range, or, of coplanar times, a coefficient of the volume's cubic does.
     OutOfRange = 2,
-    /// Of a safe time: the pair starts above the offset and below offset + clearance.
+    /// Of a safe time: the pair starts in the band, above the offset and below offset + clearance.
     TooClose = 3,
     /// Of scaling: no finite factor above 0 brings the largest entry to 0.99.
     NoFactor = 4,
@@ -86,8 +86,11 @@ pub(crate) fn unless_refused<T>(number: u32, answer: T) -> Result<T, Refusal> {
 /// The refusal of an answer of the archive.
 #[cold]
 fn known(number: u32) -> Refusal {
-    match Refusal::from_number(number) {
-        Some(refusal) => refusal,
-        None => panic!("liburtemval.a answers refusal {number}, which this crate does not know: they do not fit"),
-    }
+    Refusal::from_number(number).unwrap_or_else(|| unknown("refusal", number))
+}
+
+/// What the archive answers and this crate does not know: they are of different versions.
+#[cold]
+pub(crate) fn unknown(what: &str, number: u32) -> ! {
+    panic!("liburtemval.a answers {what} {number}, which this crate does not know: it is of another version")
 }
