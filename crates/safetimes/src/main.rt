@@ -1,5 +1,6 @@
 // The safe times of a scene (docs/01-scope.md, "The scene file", "The listing"): reads a scene file from standard
-// input and writes its listing to standard output. What fails is said on standard error.
+// input and writes its listing to standard output. What fails is said on standard error. The listing that it must
+// write is the example's, as docs/01-scope.md has it.
 ghost use Prim.Native.Nat.{_+_, _≤_};
 ghost use lib.ListN.{length};
 ghost use Rattle.io.specs.Counts.{Counts};
