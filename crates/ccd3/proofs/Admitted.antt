@@ -12,12 +12,12 @@ use Rattle.geometry.specs.Vec3.{at, col}
 use Rattle.geometry.specs.Columns.{moved}
 use Rattle.geometry.proofs.Bounds.{PointsWithin, moved-within}
 use Rattle.distance.specs.Nearest.{nearestOf}
-use Rattle.distance.proofs.Measured.{Measured, nearest-measured}
+use Rattle.distance.proofs.Measured.{nearest-measured}
 use Rattle.distance.proofs.Alike.Start.{start-same}
 use Rattle.admission.specs.declared.Limits.{Limits}
 use Rattle.admission.proofs.Admitted.{Walkable, points-within}
 use Rattle.ccd3.specs.Walk.{squaredAt}
-use Rattle.ccd3.proofs.Growth.{Sound, Given}
+use Rattle.ccd3.proofs.Growth.{Sound}
 use Rattle.ccd3.proofs.Standing.{Ground}
 
 -- each number that is handed over is an f32
@@ -35,7 +35,11 @@ module _ (x dx : List (List Float)) (split : ℕ) (l : Limits) (w : Walkable x d
   sound : (y : List (List Float)) → PointsWithin 21 y → Sound (nearestOf split y .squared)
   sound y h =
       let m = nearest-measured 21 (lit≤ tt) split y h in
-      record { fit = m .fit; sign = m .sign; bound = within-more 52 60 (nearestOf split y .squared) (lit≤ tt) (m .bound) }
+      record {
+        fit = m .fit;
+        sign = m .sign;
+        bound = within-more 52 60 (nearestOf split y .squared) (lit≤ tt) (m .bound);
+      }
 
   here : PointsWithin 20 x
   here = points-within x (w .points)

@@ -1,15 +1,15 @@
 -- The halving of a bracket: a time above the threshold below one that is not, both from 0 to 1. It ends within the
 -- bracket, at a time above the threshold whose next f32 up is not (docs/GUARANTEES.md, "contact"). Assumes nothing.
-use mathlib.Core.Path.{_≡_, refl, sym, ap, _∙_, subst}
+use mathlib.Core.Path.{_≡_, refl, sym, subst}
 use mathlib.Core.Bool.{Bool, true, false, cond}
-use Prim.Native.Nat.{ℕ, zero, suc, _+_, _≤_}
+use Prim.Native.Nat.{ℕ, zero, suc, _+_}
 use native.Mathlib.Nat.{le-trans}
 use native.Mathlib.Omega.{arith}
 use mathlib.Core.Logic.{inl, inr}
 use lib.Dec.{T}
 use lib.Ieee.{Float, binary32, add, lt, le, fits}
 use lib.Ieee.Fits.{mul-fits}
-use Rattle.number.specs.Number.{zero32, half32, one32}
+use Rattle.number.specs.Number.{half32, one32}
 use Rattle.number.specs.Halving.{midpoint, nextLower, nextUpper, repeats, Halved, halve}
 use Rattle.number.proofs.Halvings.{Ends, begin, ends}
 use Rattle.number.proofs.Halvings.Turn.{Inv, next, few}
@@ -29,7 +29,8 @@ pub record Timely (t : Float) : Type 0 where
 pub timely-le : (x y z : Float) → Timely x → Timely y → Timely z → T (le x y) → T (le y z) → T (le x z)
 timely-le x y z a b c p q =
     says-le x z (a .units) (c .units) (a .is) (c .is)
-    (le-trans (le-says x y (a .units) (b .units) (a .is) (b .is) p) (le-says y z (b .units) (c .units) (b .is) (c .is) q))
+    (le-trans (le-says x y (a .units) (b .units) (a .is) (b .is) p)
+    (le-says y z (b .units) (c .units) (b .is) (c .is) q))
 
 pub timely-refl : (x : Float) → Timely x → T (le x x)
 timely-refl x a = says-le x x (a .units) (a .units) (a .is) (a .is) (omega arith)

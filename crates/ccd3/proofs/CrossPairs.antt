@@ -1,108 +1,142 @@
--- What the cross pairs of a split make of the least time, all their tests at once (specs/Directional.antt). Assumes
--- nothing.
-use mathlib.Core.Path.{_≡_, refl, sym}
-use mathlib.Core.Bool.{Bool, true, false, cond, _||_}
-use mathlib.Core.List.{List}
-use Prim.Native.Nat.{ℕ}
-use borrow.Author.Tests.{eq-eqb, ne-eqb}
-use lib.Ieee.{Float, le}
-use Rattle.number.specs.Number.{_⊗_, zero32}
+-- The cross pairs still to come in the two loops over the columns, what one of them does to the least time, and that
+-- tables of what each pair leaves give the step of the definition (specs/Directional.antt, specs/Tables.antt). All of
+-- it is said over any split or any list of pairs. Assumes nothing.
+use mathlib.Core.Path.{_≡_, refl, ap, _∙_}
+use mathlib.Core.Bool.{Bool, true, false, cond}
+use mathlib.Core.List.{List, [], _∷_, _++_, map, flatMap}
+use Prim.Native.Nat.{ℕ, suc, _+_, _-_, _≤_, _<_}
+use native.Mathlib.Numerals.{add-one}
+use native.Mathlib.Omega.{arith}
+use lib.Dec.{T, not-T}
+use lib.Ieee.Bits.{is-false}
+use lib.Ieee.{Float, lt, le}
+use Rattle.number.specs.Number.{_⊖_, _⊗_, _⊘_, zero32, smaller, larger}
+use Rattle.number.proofs.Transitive.{lt-trans, lt-self}
 use Rattle.geometry.specs.Vec3.{dot}
 use Rattle.ccd3.specs.declared.Aim.{Aim}
 use Rattle.ccd3.specs.Directional.{
   Cross,
   cross,
-  edgePairs,
-  facePairs,
-  crossPairs,
+  columns,
   gap,
   rel,
   projected,
   lessened,
   leastOver,
-  directional,
   largest,
 }
+use Rattle.ccd3.specs.Tables.{timeLeft, entry, leastIn}
 
--- ---- tests one after the other, and all at once
-module _ (z v : Float) where
-  three-stop : (b c d : Bool) → (b || c) || d ≡ true → z ≡ cond b z (cond c z (cond d z v))
-  three-stop true c d h = refl
-  three-stop false true d h = refl
-  three-stop false false true h = refl
-  three-stop false false false h = cc
+-- ---- the pairs still to come
+columns-next : (i n : ℕ) → i < n → columns i (n - i) ≡ i ∷ columns (i + 1) (n - (i + 1))
+unfolding columns
+columns-next i n h =
+    let one-less : n - i ≡ suc (n - (i + 1)) = omega arith in
+    rw (one-less, add-one i)
 
-  three-pass : (b c d : Bool) → (b || c) || d ≡ false → v ≡ cond b z (cond c z (cond d z v))
-  three-pass true c d h = cc
-  three-pass false true d h = cc
-  three-pass false false true h = cc
-  three-pass false false false h = refl
+columns-done : (i n : ℕ) → n ≤ i → columns i (n - i) ≡ []
+unfolding columns
+columns-done i n h =
+    let none : n - i ≡ 0 = omega arith in
+    rw none
 
-  four-stop : (b c d e : Bool) → ((b || c) || d) || e ≡ true → z ≡ cond b z (cond c z (cond d z (cond e z v)))
-  four-stop true c d e h = refl
-  four-stop false c d e h = three-stop c d e h
+module _ (split : ℕ) where
+  -- column i against those from j on; the rows from column i on; both, within row i
+  abbrev row : ℕ → ℕ → List Cross
+  row i j = map (cross i) (columns j (4 - j))
 
-  four-pass : (b c d e : Bool) → ((b || c) || d) || e ≡ false → v ≡ cond b z (cond c z (cond d z (cond e z v)))
-  four-pass true c d e h = cc
-  four-pass false c d e h = three-pass c d e h
+  abbrev pub rows : ℕ → List Cross
+  rows i = flatMap (λ (k : ℕ). row k split) (columns i (split - i))
+
+  abbrev pub rest : ℕ → ℕ → List Cross
+  rest i j = row i j ++ rows (i + 1)
+
+  pub row-next : (i j : ℕ) → j < 4 → rest i j ≡ cross i j ∷ rest i (j + 1)
+  row-next i j h = ap (λ (js : List ℕ). map (cross i) js ++ rows (i + 1)) (columns-next j 4 h)
+
+  pub row-done : (i j : ℕ) → 4 ≤ j → rest i j ≡ rows (i + 1)
+  row-done i j h = ap (λ (js : List ℕ). map (cross i) js ++ rows (i + 1)) (columns-done j 4 h)
+
+  pub rows-next : (i : ℕ) → i < split → rows i ≡ rest i split
+  unfolding flatMap
+  rows-next i h = ap (flatMap (λ (k : ℕ). row k split)) (columns-next i split h)
+
+  pub rows-done : (i : ℕ) → split ≤ i → rows i ≡ []
+  unfolding flatMap
+  rows-done i h = ap (flatMap (λ (k : ℕ). row k split)) (columns-done i split h)
+
+-- ---- one pair, as the loop meets it
+module _ (reach time : List (List Float)) (dip : Float) where
+  pub none-left : (least : Float) → leastIn reach time dip [] least ≡ least
+  unfolding leastIn
+  none-left least = refl
+
+  module _ (p : Cross) (ps : List Cross) (least : Float) where
+    pub pair-stops : le (entry reach p) dip ≡ true → leastIn reach time dip (p ∷ ps) least ≡ zero32
+    unfolding leastIn
+    pair-stops e = rw e
+
+    pub pair-passes : (least′ : Float) → least′ ≡ smaller least (entry time p) → le (entry reach p) dip ≡ false
+        → leastIn reach time dip (p ∷ ps) least ≡ leastIn reach time dip ps least′
+    unfolding leastIn
+    pair-passes least′ l e = rw (e, l)
+
+-- ---- the tables
+-- no least time is above the largest f32, from which it starts
+abbrev Under : Float → Type 0
+Under t = T (lt largest t) → ⊥
+
+under-smaller : (least t : Float) → Under least → Under (smaller least t)
+unfolding smaller
+under-smaller least t h = go (lt t least) (λ u. u)
+  where
+    go : (b : Bool) → (T b → T (lt t least)) → T (lt largest (cond b t least)) → ⊥
+    go true f u = h (lt-trans largest t least u (f tt))
+    go false f u = h u
+
+with-largest : (least : Float) → Under least → smaller least largest ≡ least
+unfolding smaller
+with-largest least h = rw (is-false (lt largest least) (not-T (lt largest least) h))
 
 module _ (x dx : List (List Float)) (a : Aim) where
-  abbrev reach : Cross → Float
-  reach p = projected a (gap x p) (rel dx p)
+  abbrev reachOf : Cross → Float
+  reachOf p = projected a (gap x p) (rel dx p)
 
-  abbrev dipped : Float → Bool
-  dipped r = le r (a .dip ⊗ a .norm)
+  abbrev speedOf : Cross → Float
+  speedOf p = dot (a .w) (rel dx p)
 
-  abbrev with-pair : Float → Float → Cross → Float
-  with-pair least r p = lessened a least r (dot (a .w) (rel dx p))
+  as-smaller : (least r s : Float) → Under least → smaller least (timeLeft a r s) ≡ lessened a least r s
+  unfolding timeLeft lessened
+  as-smaller least r s h = go (lt zero32 s)
+    where
+      go : (b : Bool)
+          → smaller least (cond b (larger (r ⊖ a .park ⊗ a .norm) zero32 ⊘ s) largest)
+          ≡ cond b (smaller least (larger (r ⊖ a .park ⊗ a .norm) zero32 ⊘ s)) least
+      go true = refl
+      go false = with-largest least h
 
-  module _ (r02 r03 r12 r13 : Float) (e02 : r02 ≡ reach (cross 0 2)) (e03 : r03 ≡ reach (cross 0 3))
-      (e12 : r12 ≡ reach (cross 1 2)) (e13 : r13 ≡ reach (cross 1 3)) where
-    abbrev edges-dip : Bool
-    edges-dip = ((dipped r02 || dipped r03) || dipped r12) || dipped r13
+  module _ (reach time : List (List Float)) where
+    -- the tables have what each of the pairs leaves
+    unfoldable pub Tabled : List Cross → Type 0
+    Tabled [] = Unit
+    Tabled (p ∷ ps) =
+        (entry reach p ≡ reachOf p) × (entry time p ≡ timeLeft a (entry reach p) (speedOf p)) × Tabled ps
 
-    abbrev edges-least : Float
-    edges-least =
-        with-pair (with-pair (with-pair (with-pair largest r02 (cross 0 2)) r03 (cross 0 3)) r12 (cross 1 2)) r13
-        (cross 1 3)
+    alike : (ps : List Cross) → Tabled ps → (least : Float) → Under least
+        → leastIn reach time (a .dip ⊗ a .norm) ps least ≡ leastOver a x dx ps least
+    unfolding leastIn leastOver Tabled
+    alike [] h least u = refl
+    alike (p ∷ ps) h least u =
+        let step : smaller least (entry time p) ≡ lessened a least (reachOf p) (speedOf p) =
+        ap (smaller least) (h .1)
+        ∙ as-smaller least (entry reach p) (speedOf p) u
+        ∙ ap (λ (r : Float). lessened a least r (speedOf p)) (h .0) in
+        ap (λ (r : Float). cond (le r (a .dip ⊗ a .norm)) zero32
+        (leastIn reach time (a .dip ⊗ a .norm) ps (smaller least (entry time p)))) (h .0)
+        ∙ ap (cond (le (reachOf p) (a .dip ⊗ a .norm)) zero32)
+        (alike ps (h .2) (smaller least (entry time p)) (under-smaller least (entry time p) u)
+        ∙ ap (leastOver a x dx ps) step)
 
-    pub edges-stop : edges-dip ≡ true → zero32 ≡ leastOver a x dx edgePairs largest
-    unfolding leastOver
-    edges-stop h =
-        rw (← e02, ← e03, ← e12, ← e13)
-        (four-stop zero32 edges-least (dipped r02) (dipped r03) (dipped r12) (dipped r13) h)
-
-    pub edges-pass : edges-dip ≡ false → edges-least ≡ leastOver a x dx edgePairs largest
-    unfolding leastOver
-    edges-pass h =
-        rw (← e02, ← e03, ← e12, ← e13)
-        (four-pass zero32 edges-least (dipped r02) (dipped r03) (dipped r12) (dipped r13) h)
-
-  module _ (r03 r13 r23 : Float) (e03 : r03 ≡ reach (cross 0 3)) (e13 : r13 ≡ reach (cross 1 3))
-      (e23 : r23 ≡ reach (cross 2 3)) where
-    abbrev face-dips : Bool
-    face-dips = (dipped r03 || dipped r13) || dipped r23
-
-    abbrev face-least : Float
-    face-least = with-pair (with-pair (with-pair largest r03 (cross 0 3)) r13 (cross 1 3)) r23 (cross 2 3)
-
-    pub face-stop : face-dips ≡ true → zero32 ≡ leastOver a x dx facePairs largest
-    unfolding leastOver
-    face-stop h =
-        rw (← e03, ← e13, ← e23)
-        (three-stop zero32 face-least (dipped r03) (dipped r13) (dipped r23) h)
-
-    pub face-pass : face-dips ≡ false → face-least ≡ leastOver a x dx facePairs largest
-    unfolding leastOver
-    face-pass h =
-        rw (← e03, ← e13, ← e23)
-        (three-pass zero32 face-least (dipped r03) (dipped r13) (dipped r23) h)
-
-module _ (x dx : List (List Float)) (split : ℕ) (a : Aim) where
-  pub edges-asked : split ≡ 2 → leastOver a x dx edgePairs largest ≡ directional x dx split a
-  unfolding directional crossPairs
-  edges-asked e = rw (eq-eqb split 2 e)
-
-  pub face-asked : (split ≡ 2 → ⊥) → leastOver a x dx facePairs largest ≡ directional x dx split a
-  unfolding directional crossPairs
-  face-asked n = rw (ne-eqb split 2 n)
+    pub tables-give : (ps : List Cross) → Tabled ps
+        → leastIn reach time (a .dip ⊗ a .norm) ps largest ≡ leastOver a x dx ps largest
+    tables-give ps h = alike ps h largest (lt-self largest)

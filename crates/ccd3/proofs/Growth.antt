@@ -1,26 +1,26 @@
--- Times only grow: from a time above the threshold the step is not below zero, and the next time is not before this one
--- (specs/Step.antt). Nothing on the way is NaN. Assumes nothing.
-use mathlib.Core.Path.{_≡_, refl, sym, ap, _∙_, subst}
-use mathlib.Core.Bool.{Bool, true, false, cond, _&&_, _||_}
+-- Times only grow: from a time above the threshold the step is not below zero, and the next time is not before this
+-- one (specs/Step.antt). Nothing on the way is NaN. Assumes nothing.
+use mathlib.Core.Path.{refl}
+use mathlib.Core.Bool.{Bool, true, false, cond}
 use mathlib.Core.List.{List, [], _∷_}
-use Prim.Native.Nat.{ℕ, zero, suc, _*_, _^_, _≤_, _<_, zero-le}
-use native.Mathlib.Nat.{le-trans, le-of-lt, le-of-eq, lt-of-le-of-lt, mul-assoc}
+use Prim.Native.Nat.{ℕ, zero, suc, _+_, _*_, _≤_, _<_, zero-le}
+use native.Mathlib.Nat.{lt-of-le-of-lt}
 use native.Mathlib.Omega.{arith}
-use lib.Dec.{T, ltb, eqb, ltb→lt, lt→ltb, eqb→eq, lit≤}
+use lib.Dec.{T, ltb, ltb→lt, lt→ltb, lit≤}
 use lib.Ieee.{Float, nan, inf, fin, binary32, up, down, lt, le, fits, ofBits}
-use lib.Ieee.Fits.{add-fits, mul-fits, div-fits, cond-fits, and-l, and-r, down-pos}
+use lib.Ieee.Fits.{add-fits, mul-fits, div-fits, cond-fits, and-l, and-r}
 use lib.Ieee.Bits.{ofBits-fits}
 use lib.Ieee.Positive.{positive}
 use lib.Ieee.Scale.{finite}
 use Rattle.number.specs.Number.{_⊕_, _⊖_, _⊗_, _⊘_, zero32, half32, one32, smaller, larger}
-use Rattle.number.specs.Range.{limit, leastSpeed, mostSpeed, zeroToLimit, speedRange}
+use Rattle.number.specs.Range.{limit, zeroToLimit, speedRange}
 use Rattle.number.specs.Root.{rootOf}
 use Rattle.number.proofs.Later.{later-any}
-use Rattle.number.proofs.Quotients.{AtLeast, div-within}
+use Rattle.number.proofs.Quotients.{div-within}
 use Rattle.number.proofs.Signs.{plus-up, square-plus, sum-plus, product-plus, quotient-plus}
 use Rattle.number.proofs.SquareRoot.Bounds.{RootUnits, root-facts, root-within}
 use Rattle.number.proofs.Units.{Unit32, plus, of-float}
-use Rattle.number.proofs.Units.Compared.{L, Is, lt-says, says-lt, le-says}
+use Rattle.number.proofs.Units.Compared.{Is, lt-says, says-lt, le-says}
 use Rattle.number.proofs.Ranges.{zero-to-limit, speed-range}
 use Rattle.number.proofs.Within.{Within, within-finite, within-more, add-within, sub-within, mul-within}
 use Rattle.geometry.specs.Vec3.{dot}
@@ -29,6 +29,7 @@ use Rattle.ccd3.specs.declared.Aim.{Aim}
 use Rattle.ccd3.specs.Directional.{
   Cross,
   crossPairs,
+  twoOrThree,
   gap,
   rel,
   lessened,
@@ -101,7 +102,8 @@ least-fits x dx a (p ∷ ps) least h =
 
 directional-fits : (x dx : List (List Float)) (split : ℕ) (a : Aim) → T (fits binary32 (directional x dx split a))
 unfolding directional
-directional-fits x dx split a = least-fits x dx a (crossPairs split) largest (ofBits-fits binary32 0x7f7f_ffff)
+directional-fits x dx split a =
+    least-fits x dx a (crossPairs (twoOrThree split)) largest (ofBits-fits binary32 0x7f7f_ffff)
 
 -- ---- the plain step
 from-zero : (x : Float) → T (zeroToLimit x) → T (le zero32 x)
@@ -161,11 +163,16 @@ module _ (l : Limits) (g : Given l) where
       add-within 20 (l .offset) (l .clearance) (lit≤ tt) (zero-to-limit (l .offset) (g .offset-in) .1)
       (zero-to-limit (l .clearance) (g .clearance-in) .1)
 
+  square-units : (a : ℕ) (x : Float) → a + a ≤ 127 → Within a x → (u : ℕ) × Unit32 (x ⊗ x) u
+  square-units a x small h =
+      of-float (x ⊗ x) (mul-fits binary32 x x) (within-finite (a + a) (x ⊗ x) (mul-within a a x x small h h))
+      (plus-up (x ⊗ x) (square-plus x (within-finite a x h)))
+
   pub squared-park : (u : ℕ) × Unit32 (park l ⊗ park l) u
-  squared-park =
-      of-float (park l ⊗ park l) (mul-fits binary32 (park l) (park l))
-      (within-finite 42 (park l ⊗ park l) (mul-within 21 21 (park l) (park l) (lit≤ tt) park-within park-within))
-      (plus-up (park l ⊗ park l) (square-plus (park l) (within-finite 21 (park l) park-within)))
+  squared-park = square-units 21 (park l) (lit≤ tt) park-within
+
+  pub squared-offset : (u : ℕ) × Unit32 (l .offset ⊗ l .offset) u
+  squared-offset = square-units 20 (l .offset) (lit≤ tt) (zero-to-limit (l .offset) (g .offset-in) .1)
 
 module _ (l : Limits) (g : Given l) (d : Float) (s : Sound d) (above : T (lt (park l ⊗ park l) d)) where
   own : (v : ℕ) × Unit32 d v
@@ -209,7 +216,8 @@ module _ (dx : List (List Float)) (split : ℕ) (l : Limits) (g : Given l) (v : 
     where
       go : (b : Bool) → T (plus (cond b (larger p (directional (v .points) dx split (aim l (v .near)))) p))
       go true =
-          larger-plus p (directional (v .points) dx split (aim l (v .near))) (plain-plus l g (v .near .squared) s above)
+          larger-plus p (directional (v .points) dx split (aim l (v .near)))
+          (plain-plus l g (v .near .squared) s above)
       go false = plain-plus l g (v .near .squared) s above
 
   step-fits : T (fits binary32 (step dx split l v))

@@ -1,9 +1,9 @@
--- A loop that follows `halve`, turn by turn (the halving of `Rattle.number.specs.Halving`). What is left of the halving
--- after a turn leads to the same end. Assumes nothing.
+-- A loop that follows `halve`, turn by turn (the halving of `Rattle.number.specs.Halving`). What is left of the
+-- halving after a turn leads to the same end. Assumes nothing.
 use mathlib.Core.Path.{_≡_, refl, sym, ap, _∙_}
 use mathlib.Core.Logic.{_⊎_, inl, inr}
 use mathlib.Core.Bool.{Bool, true, false, cond}
-use Prim.Native.Nat.{ℕ, zero, suc, _+_, _-_, _≤_, _<_}
+use Prim.Native.Nat.{ℕ, suc, _+_, _-_, _<_}
 use native.Mathlib.Numerals.{add-one}
 use native.Mathlib.Omega.{arith}
 use lib.Ieee.{Float, eq}

@@ -1,14 +1,13 @@
 -- What a function is told of the numbers that it is handed: each is an f32. Of four points as an array of arrays, and
 -- of the limits. Assumes nothing.
-use mathlib.Core.Path.{_≡_, sym, subst}
-use mathlib.Core.Bool.{true}
+use mathlib.Core.Path.{sym, subst}
 use mathlib.Core.List.{List, [], _∷_}
 use Prim.Native.Nat.{ℕ, zero, suc, _<_}
 use native.Mathlib.Nat.{le-of-suc-le-suc}
 use native.Mathlib.Omega.{arith}
 use lib.Dec.{T}
-use lib.ListN.{length, getD}
-use lib.Ieee.{Float, nan, binary32, fits}
+use lib.ListN.{length}
+use lib.Ieee.{Float, binary32, fits}
 use package.mir.Val.{Val}
 use denote.Shadow.{shadow}
 use denote.Array.{Array, each}

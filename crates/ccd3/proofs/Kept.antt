@@ -2,31 +2,29 @@
 -- computed squared distance at the time, at its neighbour and at the probes. Assumes nothing.
 use mathlib.Core.Path.{_≡_, refl, sym, ap, _∙_, subst}
 use mathlib.Core.Bool.{Bool, true, false, cond, not}
-use mathlib.Core.List.{List, [], _∷_}
-use Prim.Native.Nat.{ℕ, zero, suc, _+_, _*_, _≤_, _<_, zero-le, suc-le-suc}
+use mathlib.Core.List.{List, _∷_}
+use Prim.Native.Nat.{ℕ, zero, suc, _*_, _≤_, _<_, zero-le, suc-le-suc}
 use native.Mathlib.Nat.{le-trans, le-of-lt, lt-of-lt-of-le}
 use native.Mathlib.Omega.{arith}
 use lib.Dec.{T, ltb, nltb→le, lit≤}
 use lib.ListN.{length}
-use lib.IntN.{ℤ}
-use lib.Ieee.{Float, nan, inf, fin, binary32, up, down, lt, le, fits, toBits, ofBits}
+use lib.Ieee.{Float, nan, inf, fin, binary32, up, down, lt, le, toBits, ofBits}
 use lib.Ieee.Bits.{ofBits-toBits, ofBits-fits}
 use lib.Ieee.Fits.{down-pos}
 use Rattle.number.specs.Number.{zero32, larger, nextUp}
-use Rattle.number.specs.Halving.{Halved, halve}
-use Rattle.number.proofs.Halvings.{Ends}
+use Rattle.number.specs.Halving.{halve}
 use Rattle.number.proofs.Signs.{plus-up}
-use Rattle.number.proofs.Units.{Unit32, plus, same-float}
+use Rattle.number.proofs.Units.{plus, same-float}
 use Rattle.number.proofs.Units.Compared.{L, Is, lt-is, lt-says, le-says, says-le}
 use Rattle.admission.specs.declared.Limits.{Limits}
 use Rattle.ccd3.specs.declared.Answer.{Answer}
 use Rattle.ccd3.specs.declared.Answer.the-variants.{Touching, Contact, Clear, Budget, Refused}
 use Rattle.ccd3.specs.Step.{Visit, next}
-use Rattle.ccd3.specs.Walk.{Walked, visit, above, closing, written, cleared, spent, met, probing, walk}
+use Rattle.ccd3.specs.Walk.{Walked, visit, above, closing, written, walk}
 use Rattle.ccd3.specs.SafeTime.{squaredPark}
-use Rattle.ccd3.specs.Promise.{InTime, Every, Stopped, Paused}
+use Rattle.ccd3.specs.Promise.{InTime, Every, Rising, Stopped}
 use Rattle.ccd3.proofs.WalkLaws.{walk-clears, walk-spends, walk-meets, walk-steps}
-use Rattle.ccd3.proofs.Bracket.{Timely, timely-refl, Bracket, Held, bracket-ends}
+use Rattle.ccd3.proofs.Bracket.{Timely, timely-refl, Bracket, bracket-ends}
 use Rattle.ccd3.proofs.Growth.{above-plus}
 use Rattle.ccd3.proofs.Standing.{
   zero-timely,
@@ -38,6 +36,7 @@ use Rattle.ccd3.proofs.Standing.{
   brackets,
   next-limit,
   next-timely,
+  later,
 }
 
 zero-is : Is zero32 0
@@ -88,26 +87,29 @@ module _ (x₀ dx : List (List Float)) (split : ℕ) (l : Limits) (g : Ground x�
   abbrev far : Float → Bool
   far = above x₀ dx split (squaredPark l)
 
-  -- what an answer says of a walk that probed these times
-  abbrev pub Says : List Float → Answer → Type 0
-  Says probed (Contact t) = Stopped x₀ dx split l t
-  Says probed (Clear t) = (t ≡ written (l .«max_t»)) × Every (λ (u : Float). far u ≡ true) probed
-  Says probed (Budget t) = Paused x₀ dx split l t
-  Says probed (Touching t) = ⊥
-  Says probed (Refused n) = ⊥
+  -- what an answer says of a walk that had so many probes left and probed these times
+  abbrev pub Says : ℕ → List Float → Answer → Type 0
+  Says left probed (Contact t) = InTime l t × Stopped x₀ dx split l t
+  Says left probed (Clear t) = (t ≡ written (l .«max_t»)) × Every (λ (u : Float). far u ≡ true) probed
+  Says left probed (Budget t) = InTime l t × (far t ≡ true) × (length probed ≡ left)
+  Says left probed (Touching t) = ⊥
+  Says left probed (Refused n) = ⊥
 
-  pub record Kept (left : ℕ) (w : Walked) : Type 0 where
+  pub record Kept (left : ℕ) (v : Visit) (w : Walked) : Type 0 where
     pub probes : length (w .probed) ≤ left
     pub halvings : w .halvings ≤ 256
-    pub says : Says (w .probed) (w .answer)
+    pub rising : Rising l (v .time) (w .probed)
+    pub says : Says left (w .probed) (w .answer)
 
-  in-time : (t : Float) → Timely t → T (le t (l .«max_t»)) → InTime l t
+  pub in-time : (t : Float) → Timely t → T (le t (l .«max_t»)) → InTime l t
   in-time t i h = record { from = plus-up t (i .sign); to = h; plus = written-plus t i }
 
   -- the time limit as it is answered
   pub clear-in-time : (t : Float) → t ≡ written (l .«max_t») → InTime l t
   unfolding larger
-  clear-in-time t e = subst (InTime l) (sym e) (go (lt zero32 (l .«max_t»)) (above-plus zero32 (l .«max_t») (zero-timely .sign)))
+  clear-in-time t e =
+      subst (InTime l) (sym e)
+      (go (lt zero32 (l .«max_t»)) (above-plus zero32 (l .«max_t») (zero-timely .sign)))
     where
       go : (b : Bool) → (T b → T (plus (l .«max_t»))) → InTime l (cond b (l .«max_t») zero32)
       go true h =
@@ -119,7 +121,8 @@ module _ (x₀ dx : List (List Float)) (split : ℕ) (l : Limits) (g : Ground x�
 
   -- a bracket within the limit stops well
   stopped : (lower upper : Float) → T (le upper (l .«max_t»)) → Bracket far lower upper
-      → Stopped x₀ dx split l (closing x₀ dx split (squaredPark l) lower upper .lower)
+      → InTime l (closing x₀ dx split (squaredPark l) lower upper .lower)
+      × Stopped x₀ dx split l (closing x₀ dx split (squaredPark l) lower upper .lower)
       × (closing x₀ dx split (squaredPark l) lower upper .count ≤ 256)
   unfolding closing
   stopped lower upper h b =
@@ -136,10 +139,10 @@ module _ (x₀ dx : List (List Float)) (split : ℕ) (l : Limits) (g : Ground x�
       lt-says (c .lower) (c .upper) (k .lower .units) (k .upper .units) (k .lower .is) (k .upper .is) (e .in-order) in
       let under : T (le (c .upper) (l .«max_t»)) =
       says-le (c .upper) (l .«max_t») (k .upper .units) (m .0) (k .upper .is) (m .1 .is) (le-trans a a′) in (
+        in-time (c .lower) (k .lower)
+            (says-le (c .lower) (l .«max_t») (k .lower .units) (m .0) (k .lower .is) (m .1 .is)
+            (le-of-lt (lt-of-lt-of-le o (le-trans a a′)))),
         record {
-          in-time = in-time (c .lower) (k .lower)
-              (says-le (c .lower) (l .«max_t») (k .lower .units) (m .0) (k .lower .is) (m .1 .is)
-              (le-of-lt (lt-of-lt-of-le o (le-trans a a′))));
           far = e .true-below;
           next-near = ap far (sym n) ∙ e .false-above;
           next-in-time = subst (λ (t : Float). T (le t (l .«max_t»))) n under;
@@ -148,11 +151,12 @@ module _ (x₀ dx : List (List Float)) (split : ℕ) (l : Limits) (g : Ground x�
       )
 
   -- ---- every walk
-  every : (t : Float) (ps : List Float) → far t ≡ true → (a : Answer) → Says ps a → Says (t ∷ ps) a
+  every : (left : ℕ) (t : Float) (ps : List Float) → far t ≡ true → (a : Answer) → Says left ps a
+      → Says (suc left) (t ∷ ps) a
   unfolding Every
-  every t ps f (Contact u) h = h
-  every t ps f (Clear u) h = (h .0, (f, h .1))
-  every t ps f (Budget u) h = h
+  every left t ps f (Contact u) h = h
+  every left t ps f (Clear u) h = (h .0, (f, h .1))
+  every left t ps f (Budget u) h = (h .0, h .1, ap suc (h .2))
 
   module _ (v : Visit) (s : Standing x₀ dx split l g v) where
     abbrev t : Float
@@ -161,43 +165,62 @@ module _ (x₀ dx : List (List Float)) (split : ℕ) (l : Limits) (g : Ground x�
     abbrev W : ℕ → Visit → Walked
     W = walk x₀ dx split (squaredPark l) l
 
-    clear-keeps : (left : ℕ) → lt (l .«max_t») t ≡ true → Kept left (W left v)
-    unfolding Every
-    clear-keeps left p =
-        subst (Kept left) (sym (walk-clears x₀ dx split (squaredPark l) l left v p))
-        (record { probes = zero-le; halvings = zero-le; says = (refl, tt) })
+    -- a probe is made in time, and not before the time where the walk stands
+    probe-rises : lt (l .«max_t») t ≡ false → T (le (v .time) t) × InTime l t
+    probe-rises p = (
+      later x₀ dx split l g v s .0,
+      in-time t (next-timely x₀ dx split l g v s p) (next-limit x₀ dx split l g v s p),
+    )
 
-    spent-keeps : lt (l .«max_t») t ≡ false → Kept 0 (W 0 v)
+    clear-keeps : (left : ℕ) → lt (l .«max_t») t ≡ true → Kept left v (W left v)
+    unfolding Every Rising
+    clear-keeps left p =
+        subst (Kept left v) (sym (walk-clears x₀ dx split (squaredPark l) l left v p))
+        (record { probes = zero-le; halvings = zero-le; rising = tt; says = (refl, tt) })
+
+    spent-keeps : lt (l .«max_t») t ≡ false → Kept 0 v (W 0 v)
+    unfolding Rising
     spent-keeps p =
-        subst (Kept 0) (sym (walk-spends x₀ dx split (squaredPark l) l v p))
+        subst (Kept 0 v) (sym (walk-spends x₀ dx split (squaredPark l) l v p))
         (record {
           probes = zero-le;
           halvings = zero-le;
-          says = record { in-time = in-time (v .time) (s .time) (s .in-limit); far = s .apart-at };
+          rising = tt;
+          says = (in-time (v .time) (s .time) (s .in-limit), s .apart-at, refl);
         })
 
-    met-keeps : (left : ℕ) → lt (l .«max_t») t ≡ false → far t ≡ false → Kept (suc left) (W (suc left) v)
+    met-keeps : (left : ℕ) → lt (l .«max_t») t ≡ false → far t ≡ false → Kept (suc left) v (W (suc left) v)
+    unfolding Rising
     met-keeps left p a =
         let r = stopped (v .time) t (next-limit x₀ dx split l g v s p) (brackets x₀ dx split l g v s p a) in
-        subst (Kept (suc left)) (sym (walk-meets x₀ dx split (squaredPark l) l left v p a))
-        (record { probes = suc-le-suc zero-le; halvings = r .1; says = r .0 })
+        let q = probe-rises p in
+        subst (Kept (suc left) v) (sym (walk-meets x₀ dx split (squaredPark l) l left v p a))
+        (record {
+          probes = suc-le-suc zero-le;
+          halvings = r .2;
+          rising = (q .0, q .1, tt);
+          says = (r .0, r .1);
+        })
 
     step-keeps : (left : ℕ) → lt (l .«max_t») t ≡ false → far t ≡ true
-        → Kept left (W left (visit x₀ dx split t)) → Kept (suc left) (W (suc left) v)
+        → Kept left (visit x₀ dx split t) (W left (visit x₀ dx split t)) → Kept (suc left) v (W (suc left) v)
+    unfolding Rising
     step-keeps left p a k =
         let w = W left (visit x₀ dx split t) in
-        subst (Kept (suc left)) (sym (walk-steps x₀ dx split (squaredPark l) l left v p a))
+        let q = probe-rises p in
+        subst (Kept (suc left) v) (sym (walk-steps x₀ dx split (squaredPark l) l left v p a))
         (record {
           probes = suc-le-suc (k .probes);
           halvings = k .halvings;
-          says = every t (w .probed) a (w .answer) (k .says);
+          rising = (q .0, q .1, k .rising);
+          says = every left t (w .probed) a (w .answer) (k .says);
         })
 
   pub walk-keeps : (left : ℕ) (v : Visit) → Standing x₀ dx split l g v
-      → Kept left (walk x₀ dx split (squaredPark l) l left v)
+      → Kept left v (walk x₀ dx split (squaredPark l) l left v)
   walk-keeps zero v s = go (lt (l .«max_t») (next dx split l v)) refl
     where
-      go : (b : Bool) → lt (l .«max_t») (next dx split l v) ≡ b → Kept 0 (walk x₀ dx split (squaredPark l) l 0 v)
+      go : (b : Bool) → lt (l .«max_t») (next dx split l v) ≡ b → Kept 0 v (walk x₀ dx split (squaredPark l) l 0 v)
       go true p = clear-keeps v s 0 p
       go false p = spent-keeps v s p
   walk-keeps (suc left) v s =
@@ -206,8 +229,9 @@ module _ (x₀ dx : List (List Float)) (split : ℕ) (l : Limits) (g : Ground x�
     where
       go : (b c : Bool) → lt (l .«max_t») (next dx split l v) ≡ b → far (next dx split l v) ≡ c
           → (Standing x₀ dx split l g (visit x₀ dx split (next dx split l v))
-          → Kept left (walk x₀ dx split (squaredPark l) l left (visit x₀ dx split (next dx split l v))))
-          → Kept (suc left) (walk x₀ dx split (squaredPark l) l (suc left) v)
+          → Kept left (visit x₀ dx split (next dx split l v))
+          (walk x₀ dx split (squaredPark l) l left (visit x₀ dx split (next dx split l v))))
+          → Kept (suc left) v (walk x₀ dx split (squaredPark l) l (suc left) v)
       go true c p a h = clear-keeps v s (suc left) p
       go false true p a h = step-keeps v s left p a (h (stands-on x₀ dx split l g v s p a))
       go false false p a h = met-keeps v s left p a

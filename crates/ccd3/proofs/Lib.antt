@@ -6,9 +6,8 @@ pub mod PlainStep
 pub mod Growth
 pub mod Standing
 pub mod Kept
-pub mod Promises
-pub mod Clauses
 pub mod Admitted
+pub mod Promises
 mod Handed
 mod CrossPairs
 mod HalvingLoop

@@ -1,7 +1,7 @@
--- The plain step of a walk is not below zero: where the squared distance is above the computed square of park, its root
--- is not below dip (specs/Step.antt). Assumes nothing.
-use mathlib.Core.Path.{_≡_, refl, sym, ap, _∙_, subst}
-use mathlib.Core.Bool.{Bool, true, false}
+-- The plain step of a walk is not below zero: where the squared distance is above the computed square of park, its
+-- root is not below dip (specs/Step.antt). Assumes nothing.
+use mathlib.Core.Path.{_≡_, refl, sym, _∙_, subst}
+use mathlib.Core.Bool.{true, false}
 use Prim.Native.Nat.{ℕ, _+_, _-_, _*_, _^_, _≤_, _<_}
 use native.Mathlib.Nat.{
   le-refl,
@@ -17,11 +17,10 @@ use native.Mathlib.Nat.{
 }
 use native.Mathlib.Omega.{arith}
 use lib.Dec.{T, lit<, lit≤}
-use lib.IntN.{ℤ}
 use lib.Pow.{pow-pos}
-use lib.Ieee.{Float, fin, binary32, up, down, neg, add, sub, mul, lt, ofBits}
+use lib.Ieee.{Float, fin, up, down, neg, sub, lt, ofBits}
 use lib.Ieee.Fits.{down-pos}
-use Rattle.number.specs.Number.{_⊕_, _⊖_, _⊗_, half32}
+use Rattle.number.specs.Number.{_⊖_, _⊗_, half32}
 use Rattle.number.proofs.Plus.{round-plus}
 use Rattle.number.proofs.Products.{mul-is, sum-mono, above-square, Root, root-above}
 use Rattle.number.proofs.Rounding.{rnd, Rep, rnd-mono, rnd-fix, rnd-rep}
@@ -63,7 +62,8 @@ difference-plus (fin false m e) (fin false n d) u v p q s h =
   where
     in-order : (A B C : ℕ) → A * L ≡ u * C → B * L ≡ v * C → B ≤ A
     in-order A B C a b =
-        le-of-mul-le-mul-right (le-trans (le-of-eq b) (le-trans (mul-le-mul-right C h) (le-of-eq (sym a)))) (pow-pos 149)
+        le-of-mul-le-mul-right (le-trans (le-of-eq b) (le-trans (mul-le-mul-right C h) (le-of-eq (sym a))))
+        (pow-pos 149)
 
     order : n * up d * down e ≤ m * up e * down d
     order =

@@ -1,73 +1,158 @@
--- Every answer of the safe time keeps the promises (specs/Promise.antt), as theorems of the definition. Assumes nothing.
+-- Every answer of the safe time keeps its promises (specs/Promise.antt): a theorem of the definition, for any numbers
+-- that are handed over as f32. Assumes nothing.
 use mathlib.Core.Path.{_≡_, refl, sym, ap, _∙_, subst}
 use mathlib.Core.Bool.{Bool, true, false}
-use mathlib.Core.List.{List, []}
-use Prim.Native.Nat.{ℕ, zero, suc, _≤_, zero-le}
+use mathlib.Core.List.{List}
+use Prim.Native.Nat.{ℕ, zero, suc, _+_, _≤_, zero-le}
+use native.Mathlib.Nat.{zero-add}
 use native.Mathlib.Omega.{arith}
-use lib.Dec.{T}
+use lib.Dec.{lit≤}
 use lib.ListN.{length}
-use lib.Ieee.{Float, lt, le}
+use lib.Ieee.{Float}
 use Rattle.number.specs.Number.{zero32}
 use Rattle.admission.specs.declared.Limits.{Limits}
 use Rattle.admission.specs.Admission.{walkRefusal}
+use Rattle.admission.proofs.Admitted.{walk-admits}
 use Rattle.ccd3.specs.declared.Answer.{Answer}
 use Rattle.ccd3.specs.declared.Answer.the-variants.{Touching, Contact, Clear, Budget, Refused}
-use Rattle.ccd3.specs.Walk.{Walked, start, walk, written}
-use Rattle.ccd3.specs.SafeTime.{squaredPark, allowance, still, firstSquared, touches, admittedWalk, safeWalk}
-use Rattle.ccd3.specs.Promise.{Stopped, Paused, Passed, Touched}
-use Rattle.ccd3.proofs.StartLaws.{start-touches, start-in-band, start-walks, safe-admitted, safe-refused}
-use Rattle.ccd3.proofs.Standing.{Ground, start-far, start-stands}
-use Rattle.ccd3.proofs.Kept.{Says, Kept, clear-in-time, walk-keeps}
+use Rattle.ccd3.specs.Answer.{refusalOf, kindOf, timeOf}
+use Rattle.ccd3.specs.Walk.{Walked, start, told}
+use Rattle.ccd3.specs.SafeTime.{allowance, still, touches, between, safeRefusal, safeWalk, safeTimeOf}
+use Rattle.ccd3.specs.Promise.{
+  InTime,
+  Every,
+  Rising,
+  isFar,
+  Touched,
+  Stopped,
+  Passed,
+  Paused,
+  Promised,
+  Promises,
+}
+use Rattle.ccd3.proofs.StartLaws.{walked, number-none, safe-refused, safe-touches, safe-walks}
+use Rattle.ccd3.proofs.Standing.{
+  zero-timely,
+  Ground,
+  limit-from,
+  start-number,
+  number-at,
+  start-far,
+  start-stands,
+}
+use Rattle.ccd3.proofs.Kept.{Says, Kept, in-time, clear-in-time, walk-keeps}
+use Rattle.ccd3.proofs.Admitted.{Fitting, ground}
 
 module _ (x₀ dx : List (List Float)) (split : ℕ) (l : Limits) where
-  -- what a walk's answer promises, by its case
-  abbrev pub Promised : Walked → Answer → Type 0
-  Promised w (Contact t) = Stopped x₀ dx split l t
-  Promised w (Clear t) = Passed x₀ dx split l t (w .probed)
-  Promised w (Budget t) = Paused x₀ dx split l t
-  Promised w (Touching t) = Touched x₀ dx split l t
-  Promised w (Refused n) = (w .probed ≡ []) × (w .halvings ≡ 0)
+  abbrev Keeps : Walked → Type 0
+  Keeps w = Promises x₀ dx split l (told 0 w)
 
-  pub record Keeps (w : Walked) : Type 0 where
-    pub probes : length (w .probed) ≤ allowance
-    pub halvings : w .halvings ≤ 256
-    pub says : Promised w (w .answer)
+  refused-keeps : (n : ℕ) → safeRefusal x₀ dx split l ≡ suc n
+      → safeWalk x₀ dx split l ≡ still (Refused (suc n)) → Keeps (still (Refused (suc n)))
+  unfolding refusalOf kindOf timeOf
+  refused-keeps n e is = record {
+    number = sym e;
+    counted = sym (ap (λ (w : Walked). length (w .probed)) is);
+    few-probes = zero-le;
+    few-halvings = zero-le;
+    refused = λ h. record { is-kind = refl; no-time = refl; no-probes = refl; no-halvings = refl };
+    answered = λ h. absurd (omega arith);
+    timed = λ h. absurd (omega arith);
+    steady = λ h. absurd (omega arith);
+    touching = λ h. absurd (omega arith);
+    contact = λ h. absurd (omega arith);
+    clear = λ h. absurd (omega arith);
+    budget = λ h. absurd (omega arith);
+  }
 
-  still-keeps : (a : Answer) → Promised (still a) a → Keeps (still a)
-  still-keeps a p = record { probes = zero-le; halvings = zero-le; says = p }
+  module _ (e : safeRefusal x₀ dx split l ≡ 0) (g : Ground x₀ dx split l) where
+    -- not refused: what every kind promises, with the clauses of the kinds
+    module _ (w : Walked) (is : safeWalk x₀ dx split l ≡ w) (few : length (w .probed) ≤ allowance)
+        (halves : w .halvings ≤ 256) (rises : Rising l zero32 (w .probed)) where
+      unrefused : (kind : ℕ) (t : Float) → kind ≤ 3 → InTime l t
+          → (kind ≡ 0 → Touched x₀ dx split l t) → (kind ≡ 1 → Stopped x₀ dx split l t)
+          → (kind ≡ 2 → Passed x₀ dx split l t) → (kind ≡ 3 → Paused x₀ dx split l t (0 + length (w .probed)))
+          → Promised x₀ dx split l 0 kind t (0 + length (w .probed)) (w .halvings)
+      unrefused kind t small i touched stopped passed paused = record {
+        number = sym e;
+        counted = zero-add _ ∙ sym (ap (λ (v : Walked). length (v .probed)) is);
+        few-probes = rw zero-add few;
+        few-halvings = halves;
+        refused = λ n. absurd (n refl);
+        answered = λ n. small;
+        timed = λ n. i;
+        steady = λ n. record {
+          rising = subst (λ (v : Walked). Rising l zero32 (v .probed)) (sym is) rises;
+          start-number = start-number x₀ dx split l g;
+          number-at = number-at x₀ dx split l g;
+        };
+        touching = touched;
+        contact = stopped;
+        clear = passed;
+        budget = paused;
+      }
 
-  told : (w : Walked) (a : Answer) → lt (squaredPark l) (firstSquared x₀ dx split l) ≡ true
-      → (g : Ground x₀ dx split l) → Says x₀ dx split l g (w .probed) a → Promised w a
-  told w (Contact t) f g h = h
-  told w (Clear t) f g h =
-      record { in-time = clear-in-time x₀ dx split l g t (h .0); is-limit = h .0; start-far = f; probes-far = h .1 }
-  told w (Budget t) f g h = h
+    touching-keeps : touches x₀ dx split l ≡ true → safeWalk x₀ dx split l ≡ still (Touching zero32)
+        → Keeps (still (Touching zero32))
+    unfolding refusalOf kindOf timeOf Rising
+    touching-keeps t is =
+        unrefused (still (Touching zero32)) is zero-le zero-le tt 0 zero32 zero-le
+        (in-time x₀ dx split l g zero32 zero-timely (limit-from x₀ dx split l g))
+        (λ n. record { is-zero = refl; close = t }) (λ n. absurd (omega arith)) (λ n. absurd (omega arith))
+        (λ n. absurd (omega arith))
 
-  admitted-keeps : Ground x₀ dx split l → Keeps (admittedWalk x₀ dx split l)
-  admitted-keeps g = go (touches x₀ dx split l) (lt (firstSquared x₀ dx split l) (squaredPark l)) refl refl
-    where
-      go : (a b : Bool) → touches x₀ dx split l ≡ a → lt (firstSquared x₀ dx split l) (squaredPark l) ≡ b
-          → Keeps (admittedWalk x₀ dx split l)
-      go true b e f =
-          subst Keeps (sym (start-touches x₀ dx split l e))
-          (still-keeps (Touching zero32) (record { is-zero = refl; close = e }))
-      go false true e f =
-          subst Keeps (sym (start-in-band x₀ dx split l e f)) (still-keeps (Refused 3) (refl, refl))
-      go false false e f =
-          let w = walk x₀ dx split (squaredPark l) l allowance (start x₀ dx split) in
-          let k = walk-keeps x₀ dx split l g allowance (start x₀ dx split) (start-stands x₀ dx split l g e f) in
-          subst Keeps (sym (start-walks x₀ dx split l e f))
-          (record {
-            probes = k .probes;
-            halvings = k .halvings;
-            says = told w (w .answer) (start-far x₀ dx split l g e f) g (k .says);
+    -- a walk, by its answer
+    module _ (b : between x₀ dx split l ≡ false) (t : touches x₀ dx split l ≡ false) where
+      abbrev w : Walked
+      w = walked x₀ dx split l
+
+      is : safeWalk x₀ dx split l ≡ w
+      is = safe-walks x₀ dx split l e t
+
+      kept : Kept x₀ dx split l g allowance (start x₀ dx split) w
+      kept = walk-keeps x₀ dx split l g allowance (start x₀ dx split) (start-stands x₀ dx split l g b t)
+
+      by-answer : (a : Answer) → Says x₀ dx split l g allowance (w .probed) a
+          → Promised x₀ dx split l (refusalOf a) (kindOf a) (timeOf a) (0 + length (w .probed)) (w .halvings)
+      unfolding refusalOf kindOf timeOf
+      by-answer (Contact u) h =
+          unrefused w is (kept .probes) (kept .halvings) (kept .rising) 1 u (lit≤ tt) (h .0)
+          (λ n. absurd (omega arith)) (λ n. h .1) (λ n. absurd (omega arith)) (λ n. absurd (omega arith))
+      by-answer (Clear u) h =
+          unrefused w is (kept .probes) (kept .halvings) (kept .rising) 2 u (lit≤ tt)
+          (clear-in-time x₀ dx split l g u (h .0)) (λ n. absurd (omega arith)) (λ n. absurd (omega arith))
+          (λ n. record {
+            is-limit = h .0;
+            start-far = start-far x₀ dx split l g b t;
+            probes-far =
+                subst (λ (v : Walked). Every (λ (u : Float). isFar x₀ dx split l u ≡ true) (v .probed)) (sym is)
+                (h .1);
           })
+          (λ n. absurd (omega arith))
+      by-answer (Budget u) h =
+          unrefused w is (kept .probes) (kept .halvings) (kept .rising) 3 u (lit≤ tt) (h .0)
+          (λ n. absurd (omega arith)) (λ n. absurd (omega arith)) (λ n. absurd (omega arith))
+          (λ n. record { far = h .1; all-made = rw zero-add (h .2) })
 
-  -- of any numbers, where those admitted make a ground
-  pub safe-keeps : (walkRefusal x₀ dx split l ≡ 0 → Ground x₀ dx split l) → Keeps (safeWalk x₀ dx split l)
-  safe-keeps g = go (walkRefusal x₀ dx split l) refl
+      walk-promised : Keeps w
+      walk-promised = by-answer (w .answer) (kept .says)
+
+  -- the promises of every answer
+  pub safe-time-promised : Fitting x₀ l → Promises x₀ dx split l (safeTimeOf x₀ dx split l)
+  unfolding safeTimeOf
+  safe-time-promised f = go (safeRefusal x₀ dx split l) (touches x₀ dx split l) refl refl
     where
-      go : (n : ℕ) → walkRefusal x₀ dx split l ≡ n → Keeps (safeWalk x₀ dx split l)
-      go zero e = subst Keeps (sym (safe-admitted x₀ dx split l e)) (admitted-keeps (g e))
-      go (suc n) e =
-          subst Keeps (sym (safe-refused x₀ dx split l (suc n) e (λ k. omega arith))) (still-keeps (Refused (suc n)) (refl, refl))
+      stands : walkRefusal x₀ dx split l ≡ 0 → Ground x₀ dx split l
+      stands e = ground x₀ dx split l (walk-admits x₀ dx split l e) f
+
+      go : (n : ℕ) (t : Bool) → safeRefusal x₀ dx split l ≡ n → touches x₀ dx split l ≡ t
+          → Keeps (safeWalk x₀ dx split l)
+      go (suc n) t e h =
+          let is = safe-refused x₀ dx split l (suc n) e (λ k. omega arith) in
+          subst Keeps (sym is) (refused-keeps n e is)
+      go zero true e h =
+          let is = safe-touches x₀ dx split l e h in
+          subst Keeps (sym is) (touching-keeps e (stands (number-none x₀ dx split l e .0)) h is)
+      go zero false e h =
+          let k = number-none x₀ dx split l e in
+          subst Keeps (sym (safe-walks x₀ dx split l e h)) (walk-promised e (stands (k .0)) (k .1) h)

@@ -1,59 +1,64 @@
--- How a safe time starts: by the first squared distance and by what is admitted (specs/SafeTime.antt).
--- Assumes nothing.
-use mathlib.Core.Path.{_≡_, refl, ap, _∙_}
-use mathlib.Core.Bool.{Bool, true, false}
+-- How a safe time starts: its refusal's number, and what it answers by it (specs/SafeTime.antt). Assumes nothing.
+use mathlib.Core.Path.{_≡_, refl, sym, ap, _∙_}
+use mathlib.Core.Bool.{Bool, true, false, cond}
 use mathlib.Core.List.{List}
 use Prim.Native.Nat.{ℕ, zero, suc}
-use lib.Ieee.{Float, lt}
+use native.Mathlib.Omega.{arith}
+use lib.Ieee.{Float}
 use Rattle.number.specs.Number.{zero32}
 use Rattle.admission.specs.declared.Limits.{Limits}
 use Rattle.admission.specs.Admission.{walkRefusal}
 use Rattle.ccd3.specs.declared.Answer.the-variants.{Touching, Refused}
 use Rattle.ccd3.specs.Walk.{Walked, start, walk}
-use Rattle.ccd3.specs.SafeTime.{
-  squaredPark,
-  allowance,
-  still,
-  firstSquared,
-  touches,
-  admittedWalk,
-  safeWalk,
-}
+use Rattle.ccd3.specs.SafeTime.{squaredPark, allowance, still, touches, between, safeRefusal, safeWalk}
 
 module _ (x₀ dx : List (List Float)) (split : ℕ) (l : Limits) where
-  abbrev walked : Walked
+  -- ---- the refusal's number
+  abbrev number-by : ℕ → ℕ
+  number-by n = elim n as (λ _. ℕ) [ zero ↦ cond (between x₀ dx split l) 3 0 | suc k ↦ suc k ]
+
+  pub number-admission : (n : ℕ) → walkRefusal x₀ dx split l ≡ n → (n ≡ 0 → ⊥) → safeRefusal x₀ dx split l ≡ n
+  unfolding safeRefusal
+  number-admission zero e h = absurd (h refl)
+  number-admission (suc n) e h = ap number-by e
+
+  pub number-admitted : walkRefusal x₀ dx split l ≡ 0 → safeRefusal x₀ dx split l ≡ cond (between x₀ dx split l) 3 0
+  unfolding safeRefusal
+  number-admitted e = ap number-by e
+
+  -- no refusal says both
+  pub number-none : safeRefusal x₀ dx split l ≡ 0 → (walkRefusal x₀ dx split l ≡ 0) × (between x₀ dx split l ≡ false)
+  number-none e = go (walkRefusal x₀ dx split l) (between x₀ dx split l) refl refl
+    where
+      go : (n : ℕ) (b : Bool) → walkRefusal x₀ dx split l ≡ n → between x₀ dx split l ≡ b
+          → (walkRefusal x₀ dx split l ≡ 0) × (between x₀ dx split l ≡ false)
+      go zero false h k = (h, k)
+      go zero true h k =
+          let z : _≡_ {A = ℕ} 0 3 = sym e ∙ number-admitted h ∙ ap (λ (b : Bool). cond b 3 0) k in absurd (omega arith)
+      go (suc n) b h k =
+          let z : 0 ≡ suc n = sym e ∙ number-admission (suc n) h (λ m. omega arith) in absurd (omega arith)
+
+  -- ---- the walk
+  abbrev pub walked : Walked
   walked = walk x₀ dx split (squaredPark l) l allowance (start x₀ dx split)
 
-  abbrev by-band : Bool → Walked
-  by-band b = elim b as (λ _. Walked) [ true ↦ still (Refused 3) | false ↦ walked ]
+  abbrev by-touch : Bool → Walked
+  by-touch b = elim b as (λ _. Walked) [ true ↦ still (Touching zero32) | false ↦ walked ]
 
-  abbrev by-touch : Walked → Bool → Walked
-  by-touch w b = elim b as (λ _. Walked) [ true ↦ still (Touching zero32) | false ↦ w ]
+  abbrev by-number : ℕ → Walked
+  by-number n = elim n as (λ _. Walked) [ zero ↦ by-touch (touches x₀ dx split l) | suc k ↦ still (Refused (suc k)) ]
 
-  abbrev in-band : Bool
-  in-band = lt (firstSquared x₀ dx split l) (squaredPark l)
-
-  pub start-touches : touches x₀ dx split l ≡ true → admittedWalk x₀ dx split l ≡ still (Touching zero32)
-  unfolding admittedWalk
-  start-touches e = ap (by-touch (by-band in-band)) e
-
-  pub start-in-band : touches x₀ dx split l ≡ false → in-band ≡ true → admittedWalk x₀ dx split l ≡ still (Refused 3)
-  unfolding admittedWalk
-  start-in-band e f = ap (by-touch (by-band in-band)) e ∙ ap by-band f
-
-  pub start-walks : touches x₀ dx split l ≡ false → in-band ≡ false → admittedWalk x₀ dx split l ≡ walked
-  unfolding admittedWalk
-  start-walks e f = ap (by-touch (by-band in-band)) e ∙ ap by-band f
-
-  abbrev by-refusal : ℕ → Walked
-  by-refusal n = elim n as (λ _. Walked) [ zero ↦ admittedWalk x₀ dx split l | suc k ↦ still (Refused (suc k)) ]
-
-  pub safe-admitted : walkRefusal x₀ dx split l ≡ 0 → safeWalk x₀ dx split l ≡ admittedWalk x₀ dx split l
-  unfolding safeWalk
-  safe-admitted e = ap by-refusal e
-
-  pub safe-refused : (n : ℕ) → walkRefusal x₀ dx split l ≡ n → (n ≡ 0 → ⊥)
+  pub safe-refused : (n : ℕ) → safeRefusal x₀ dx split l ≡ n → (n ≡ 0 → ⊥)
       → safeWalk x₀ dx split l ≡ still (Refused n)
   unfolding safeWalk
   safe-refused zero e h = absurd (h refl)
-  safe-refused (suc n) e h = ap by-refusal e
+  safe-refused (suc n) e h = ap by-number e
+
+  pub safe-touches : safeRefusal x₀ dx split l ≡ 0 → touches x₀ dx split l ≡ true
+      → safeWalk x₀ dx split l ≡ still (Touching zero32)
+  unfolding safeWalk
+  safe-touches e t = ap by-number e ∙ ap by-touch t
+
+  pub safe-walks : safeRefusal x₀ dx split l ≡ 0 → touches x₀ dx split l ≡ false → safeWalk x₀ dx split l ≡ walked
+  unfolding safeWalk
+  safe-walks e t = ap by-number e ∙ ap by-touch t

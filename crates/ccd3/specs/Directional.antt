@@ -1,8 +1,8 @@
 -- The directional step: how far the pair may move before some column of the first side can come near some column of
 -- the second along the direction w (docs/01-scope.md, "The directional step"). Definitions only.
-use Prim.Native.Nat.{ℕ}
-use mathlib.Core.Bool.{Bool, true, false, cond}
-use mathlib.Core.List.{List, [], _∷_}
+use Prim.Native.Nat.{ℕ, zero, suc, _-_}
+use mathlib.Core.Bool.{cond}
+use mathlib.Core.List.{List, [], _∷_, map, flatMap}
 use lib.Dec.{eqb}
 use lib.Ieee.{Float, binary32, lt, le, ofBits}
 use Rattle.number.specs.Number.{_⊕_, _⊖_, _⊗_, _⊘_, zero32, size, smaller, larger}
@@ -27,16 +27,19 @@ pub record Cross : Type 0 where
 abbrev pub cross : ℕ → ℕ → Cross
 cross i j = record { first = i; second = j }
 
--- all the cross pairs in order, of two edges, and of a face and a vertex
-abbrev pub edgePairs : List Cross
-edgePairs = cross 0 2 ∷ cross 0 3 ∷ cross 1 2 ∷ cross 1 3 ∷ []
+-- the n columns from i on
+unfoldable pub columns : ℕ → ℕ → List ℕ
+columns i zero = []
+columns i (suc n) = i ∷ columns (suc i) n
 
-abbrev pub facePairs : List Cross
-facePairs = cross 0 3 ∷ cross 1 3 ∷ cross 2 3 ∷ []
-
--- by the split; any other than 2 is taken as 3, as the distance rules take it
+-- each column i before the split with each column j from it, row after row
 unfoldable pub crossPairs : ℕ → List Cross
-crossPairs split = cond (eqb split 2) edgePairs facePairs
+unfolding columns flatMap
+crossPairs split = flatMap (λ (i : ℕ). map (cross i) (columns split (4 - split))) (columns 0 split)
+
+-- the split as the distance rules take it: 2, and any other as 3
+abbrev pub twoOrThree : ℕ → ℕ
+twoOrThree split = cond (eqb split 2) 2 3
 
 abbrev pub gap : List (List Float) → Cross → List Float
 gap x p = minus (col x (p .second)) (col x (p .first))
@@ -73,4 +76,4 @@ module _ (a : Aim) where
 
 unfoldable pub directional : List (List Float) → List (List Float) → ℕ → Aim → Float
 unfolding crossPairs leastOver
-directional x dx split a = leastOver a x dx (crossPairs split) largest
+directional x dx split a = leastOver a x dx (crossPairs (twoOrThree split)) largest

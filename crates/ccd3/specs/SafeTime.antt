@@ -1,6 +1,6 @@
 -- The safe time of a pair, refused ones too (docs/01-scope.md, "Refusal numbers", "The walk"). Definitions only.
 use Prim.Native.Nat.{ℕ, zero, suc}
-use mathlib.Core.Bool.{Bool, true, false, cond, _||_}
+use mathlib.Core.Bool.{Bool, true, false, cond, _&&_, _||_}
 use mathlib.Core.List.{List, []}
 use lib.Ieee.{Float, lt, le, eq}
 use Rattle.number.specs.Number.{_⊗_, zero32}
@@ -34,21 +34,24 @@ module _ (x₀ dx : List (List Float)) (split : ℕ) (l : Limits) where
   abbrev pub touches : Bool
   touches = le firstSquared (squaredOffset l) || eq firstSquared (squaredPark l)
 
-  -- of numbers that are admitted
-  unfoldable pub admittedWalk : Walked
-  unfolding firstSquared walk
-  admittedWalk = elim touches [
-    | true ↦ still (Touching zero32)
-    | false ↦ elim (lt firstSquared (squaredPark l)) [
-      | true ↦ still (Refused 3)
-      | false ↦ walk x₀ dx split (squaredPark l) l allowance (start x₀ dx split)
-    ]
-  ]
+  abbrev pub between : Bool
+  between = lt (squaredOffset l) firstSquared && lt firstSquared (squaredPark l)
+
+  -- the refusal's number, 0 for none
+  unfoldable pub safeRefusal : ℕ
+  unfolding firstSquared
+  safeRefusal = elim (walkRefusal x₀ dx split l) [ zero ↦ cond between 3 0 | suc n ↦ suc n ]
 
   -- of any numbers
   unfoldable pub safeWalk : Walked
-  unfolding admittedWalk
-  safeWalk = elim (walkRefusal x₀ dx split l) [ zero ↦ admittedWalk | suc n ↦ still (Refused (suc n)) ]
+  unfolding firstSquared safeRefusal walk
+  safeWalk = elim safeRefusal [
+    | zero ↦ elim touches [
+      | true ↦ still (Touching zero32)
+      | false ↦ walk x₀ dx split (squaredPark l) l allowance (start x₀ dx split)
+    ]
+    | suc n ↦ still (Refused (suc n))
+  ]
 
 unfoldable pub safeTimeOf : List (List Float) → List (List Float) → ℕ → Limits → SafeTime
 unfolding safeWalk

@@ -1,7 +1,7 @@
 -- One step of the walk (docs/01-scope.md, "The walk"): the longer of the step that is safe whatever the direction and
 -- the directional one. Definitions only.
 use Prim.Native.Nat.{ℕ}
-use mathlib.Core.Bool.{Bool, true, false, cond}
+use mathlib.Core.Bool.{cond}
 use mathlib.Core.List.{List}
 use lib.Ieee.{Float, binary32, le, ofBits}
 use Rattle.number.specs.Number.{_⊕_, _⊖_, _⊗_, _⊘_, half32, one32, larger}

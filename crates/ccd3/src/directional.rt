@@ -1,66 +1,39 @@
 // The directional step (ccd3.rs: `directional_advance`; docs/01-scope.md, "The directional step").
 ghost use mathlib.Core.Path.{_≡_};
-ghost use Rattle.geometry.specs.Vec3 as Vec3;
+ghost use Prim.Native.Nat.{_≤_};
 ghost use Rattle.ccd3.specs.Directional as Def;
+ghost use Rattle.ccd3.specs.Tables as Tables;
 use crate::Aim;
-use geometry::vec3::dot;
-use geometry::vec3::sub;
-use number::order::larger;
-use number::order::size;
+use crate::cross_pair::LARGEST;
+use crate::cross_pair::projected;
+use crate::cross_pair::time_left;
 use number::order::smaller;
 
-// 2^-22, and what a coordinate may be off.
-const ROUND_SLACK: f32 = 2.384185791015625e-7;
-
-const COORD_SLACK: f32 = 6.2e-7;
-
-const LARGEST: f32 = 3.4028235e38;
-
-// The sizes of the three numbers.
-fn sizes(v: [f32; 3]) -> [f32; 3]
-    ensures { λ r. ⌜ r ≡ Def.sizes v ⌝ }
+// The least time over the columns i before the split and j from it, where `reach` and `time` have at i, j what that
+// pair leaves. The first pair that is not beyond dip ends both loops at once with step 0.
+fn over_sides(reach: [[f32; 4]; 3], time: [[f32; 4]; 3], split: usize, dip: f32) -> f32
+    requires { ⌜ split ≤ 3 ⌝ }
+    ensures { λ r. ⌜ r ≡ Tables.leastIn reach time dip (Def.crossPairs split) Def.largest ⌝ }
 {
-    [size(v[0]), size(v[1]), size(v[2])]
-}
-
-// |a| · |b|
-fn dot_of_sizes(a: [f32; 3], b: [f32; 3]) -> f32
-    ensures { λ r. ⌜ r ≡ Vec3.dot (Def.sizes a) (Def.sizes b) ⌝ }
-{
-    dot(sizes(a), sizes(b))
-}
-
-// The gap from one column to another along the direction, less what rounding may have added to it. The columns stand
-// at `from` and `to` and are displaced by `first` and `second`.
-fn projected(from: [f32; 3], to: [f32; 3], first: [f32; 3], second: [f32; 3], a: Aim) -> f32
-    ensures { λ r. ⌜ r ≡ Def.projected a (Vec3.minus to from) (Vec3.minus first second) ⌝ }
-{
-    let w = a.w;
-    let gap = sub(to, from);
-    let rel = sub(first, second);
-    let err = ROUND_SLACK
-        * (dot_of_sizes(w, gap) + a.max_t * dot_of_sizes(w, rel) + a.park * a.norm)
-        + COORD_SLACK * a.norm;
-    dot(w, gap) - err
-}
-
-// The least time so far, with that of columns that are displaced by `first` and `second` and close in from `reach`.
-fn lessened(least: f32, reach: f32, first: [f32; 3], second: [f32; 3], a: Aim) -> f32
-    ensures { λ r. ⌜ r ≡ Def.lessened a least reach (Vec3.dot (a .w) (Vec3.minus first second)) ⌝ }
-{
-    let w = a.w;
-    let speed = dot(w, sub(first, second));
-    if 0.0 < speed {
-        smaller(least, larger(reach - a.park * a.norm, 0.0) / speed)
-    } else {
-        least
+    let mut step = LARGEST;
+    'sides: for i in 0..split {
+        let reaches = reach[i];
+        let times = time[i];
+        for j in split..4 {
+            if reaches[j] <= dip {
+                step = 0.0;
+                break 'sides;
+            }
+            step = smaller(step, times[j]);
+        }
     }
+    step
 }
 
-// Of two edges. What each pair of columns leaves is computed before the first test: a compiler then computes all of
-// them at once.
+// Of two edges. What each pair of columns leaves is put into tables before the first test, so that a compiler computes
+// all of it side by side; places of no pair are zero and never read.
 fn between_edges(x: [[f32; 3]; 4], dx: [[f32; 3]; 4], a: Aim) -> f32
-    ensures { λ r. ⌜ r ≡ Def.leastOver a x dx Def.edgePairs Def.largest ⌝ }
+    ensures { λ r. ⌜ r ≡ Def.leastOver a x dx (Def.crossPairs 2) Def.largest ⌝ }
 {
     let x0 = x[0];
     let x1 = x[1];
@@ -74,19 +47,26 @@ fn between_edges(x: [[f32; 3]; 4], dx: [[f32; 3]; 4], a: Aim) -> f32
     let r03 = projected(x0, x3, d0, d3, a);
     let r12 = projected(x1, x2, d1, d2, a);
     let r13 = projected(x1, x3, d1, d3, a);
-    let dip = a.dip * a.norm;
-    if (r02 <= dip) | (r03 <= dip) | (r12 <= dip) | (r13 <= dip) {
-        return 0.0;
-    }
-    let s02 = lessened(LARGEST, r02, d0, d2, a);
-    let s03 = lessened(s02, r03, d0, d3, a);
-    let s12 = lessened(s03, r12, d1, d2, a);
-    lessened(s12, r13, d1, d3, a)
+    let t02 = time_left(r02, d0, d2, a);
+    let t03 = time_left(r03, d0, d3, a);
+    let t12 = time_left(r12, d1, d2, a);
+    let t13 = time_left(r13, d1, d3, a);
+    let reach = [
+        [0.0, 0.0, r02, r03],
+        [0.0, 0.0, r12, r13],
+        [0.0, 0.0, 0.0, 0.0],
+    ];
+    let time = [
+        [0.0, 0.0, t02, t03],
+        [0.0, 0.0, t12, t13],
+        [0.0, 0.0, 0.0, 0.0],
+    ];
+    over_sides(reach, time, 2, a.dip * a.norm)
 }
 
 // Of a face and a vertex.
 fn face_to_vertex(x: [[f32; 3]; 4], dx: [[f32; 3]; 4], a: Aim) -> f32
-    ensures { λ r. ⌜ r ≡ Def.leastOver a x dx Def.facePairs Def.largest ⌝ }
+    ensures { λ r. ⌜ r ≡ Def.leastOver a x dx (Def.crossPairs 3) Def.largest ⌝ }
 {
     let x0 = x[0];
     let x1 = x[1];
@@ -99,18 +79,25 @@ fn face_to_vertex(x: [[f32; 3]; 4], dx: [[f32; 3]; 4], a: Aim) -> f32
     let r03 = projected(x0, x3, d0, d3, a);
     let r13 = projected(x1, x3, d1, d3, a);
     let r23 = projected(x2, x3, d2, d3, a);
-    let dip = a.dip * a.norm;
-    if (r03 <= dip) | (r13 <= dip) | (r23 <= dip) {
-        return 0.0;
-    }
-    let s03 = lessened(LARGEST, r03, d0, d3, a);
-    let s13 = lessened(s03, r13, d1, d3, a);
-    lessened(s13, r23, d2, d3, a)
+    let t03 = time_left(r03, d0, d3, a);
+    let t13 = time_left(r13, d1, d3, a);
+    let t23 = time_left(r23, d2, d3, a);
+    let reach = [
+        [0.0, 0.0, 0.0, r03],
+        [0.0, 0.0, 0.0, r13],
+        [0.0, 0.0, 0.0, r23],
+    ];
+    let time = [
+        [0.0, 0.0, 0.0, t03],
+        [0.0, 0.0, 0.0, t13],
+        [0.0, 0.0, 0.0, t23],
+    ];
+    over_sides(reach, time, 3, a.dip * a.norm)
 }
 
 // The longest step in which no column of one side can come near one of the other along the direction: 0 where some
 // pair of columns is not beyond dip.
-pub fn directional_advance(x: [[f32; 3]; 4], dx: [[f32; 3]; 4], split: usize, a: Aim) -> f32
+pub(crate) fn directional_advance(x: [[f32; 3]; 4], dx: [[f32; 3]; 4], split: usize, a: Aim) -> f32
     ensures { λ r. ⌜ r ≡ Def.directional x dx split a ⌝ }
 {
     if split == 2 {

@@ -5,9 +5,9 @@ ghost use Rattle.ccd3.specs.Walk as Def;
 use geometry::mat3x4_array_of_cols::add_scaled;
 
 // Where the halving ended: the last time above the threshold, and how many halvings there were.
-pub struct Closed {
-    pub lower: f32,
-    pub count: u32,
+pub(crate) struct Closed {
+    pub(crate) lower: f32,
+    pub(crate) count: u32,
 }
 
 // Whether the squared distance at a time is above the threshold.
@@ -18,7 +18,7 @@ fn is_above(x0: [[f32; 3]; 4], dx: [[f32; 3]; 4], split: usize, threshold: f32, 
 }
 
 // Midpoints, until the computed window repeats. The last halving, which moves nothing, is counted.
-pub fn close_in(
+pub(crate) fn close_in(
     x0: [[f32; 3]; 4],
     dx: [[f32; 3]; 4],
     split: usize,

@@ -1,4 +1,5 @@
 // The safe time of a pair (ccd3.rs: `directional_advance`, `maximum_safe_time_accurate`).
+
 // How a call ends, each case with its time, or a refusal's number.
 pub enum Answer {
     Touching(f32),
@@ -16,16 +17,17 @@ pub struct SafeTime {
 }
 
 // What a directional step is taken along and held against: the direction, its norm, dip, park and the time limit.
-pub struct Aim {
-    pub w: [f32; 3],
-    pub norm: f32,
-    pub dip: f32,
-    pub park: f32,
-    pub max_t: f32,
+pub(crate) struct Aim {
+    pub(crate) w: [f32; 3],
+    pub(crate) norm: f32,
+    pub(crate) dip: f32,
+    pub(crate) park: f32,
+    pub(crate) max_t: f32,
 }
 
-pub mod directional;
-pub mod halving;
+mod cross_pair;
+mod directional;
+mod halving;
 pub mod safe_time;
-pub mod step;
-pub mod walk;
+mod step;
+mod walk;

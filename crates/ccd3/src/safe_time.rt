@@ -1,10 +1,9 @@
 // The safe time of a pair (ccd3.rs: `maximum_safe_time_accurate`; docs/01-scope.md, "The walk").
 ghost use mathlib.Core.Path.{_≡_};
-ghost use Prim.Native.Nat.{ℕ, _≤_};
-ghost use lib.Ieee.{Float};
+ghost use Rattle.admission.specs.Admission.{walkRefusal};
 ghost use Rattle.ccd3.specs.Walk.{told};
 ghost use Rattle.ccd3.specs.SafeTime as Def;
-ghost use Rattle.ccd3.specs.Promise.{Touched, Stopped, Passed, Paused};
+ghost use Rattle.ccd3.specs.Promise.{Promises};
 use crate::Answer;
 use crate::SafeTime;
 use crate::walk::walk;
@@ -25,16 +24,18 @@ fn still(answer: Answer) -> SafeTime
 
 // The safe time of numbers that are admitted.
 fn admitted(x0: [[f32; 3]; 4], dx: [[f32; 3]; 4], split: usize, l: Limits) -> SafeTime
-    ensures { λ r. ⌜ r ≡ told 0 (Def.admittedWalk x0 dx split l) ⌝ }
+    requires { ⌜ walkRefusal x0 dx split l ≡ 0 ⌝ }
+    ensures { λ r. ⌜ r ≡ Def.safeTimeOf x0 dx split l ⌝ }
 {
     let first = nearest(x0, split);
+    let squared_offset = l.offset * l.offset;
     let park = l.offset + l.clearance;
     let squared_park = park * park;
-    if (first.squared <= l.offset * l.offset) | (first.squared == squared_park) {
-        return still(Answer::Touching(0.0));
-    }
-    if first.squared < squared_park {
+    if (squared_offset < first.squared) & (first.squared < squared_park) {
         return still(Answer::Refused(3));
+    }
+    if (first.squared <= squared_offset) | (first.squared == squared_park) {
+        return still(Answer::Touching(0.0));
     }
     walk(x0, dx, split, squared_park, l, first)
 }
@@ -47,14 +48,7 @@ pub fn maximum_safe_time_accurate(
     limits: Limits,
 ) -> SafeTime
     ensures answer { λ r. ⌜ r ≡ Def.safeTimeOf x0 dx split limits ⌝ }
-    ensures probes { λ r. ⌜ r .probes ≤ 4096 ⌝ }
-    ensures halvings { λ r. ⌜ r .halvings ≤ 256 ⌝ }
-    ensures touching { λ r. ⌜ ((t : Float) → r .answer ≡ Answer.Touching t → Touched x0 dx split limits t) ⌝ }
-    ensures contact { λ r. ⌜ ((t : Float) → r .answer ≡ Answer.Contact t → Stopped x0 dx split limits t) ⌝ }
-    ensures clear { λ r. ⌜ ((t : Float) → r .answer ≡ Answer.Clear t
-        → Passed x0 dx split limits t (Def.safeWalk x0 dx split limits .probed)) ⌝ }
-    ensures budget { λ r. ⌜ ((t : Float) → r .answer ≡ Answer.Budget t → Paused x0 dx split limits t) ⌝ }
-    ensures refused { λ r. ⌜ ((n : ℕ) → r .answer ≡ Answer.Refused n → (r .probes ≡ 0) × (r .halvings ≡ 0)) ⌝ }
+    ensures promised { λ r. ⌜ Promises x0 dx split limits r ⌝ }
 {
     let refusal = admit_walk(x0, dx, split, limits);
     if refusal == 0 {

@@ -42,7 +42,7 @@ fn step(
 }
 
 // The time after the step.
-pub fn next_time(
+pub(crate) fn next_time(
     time: f32,
     x: [[f32; 3]; 4],
     near: Nearest,

@@ -2,6 +2,7 @@
 ghost use mathlib.Core.Path.{_≡_};
 ghost use Rattle.number.specs.Number.{zero32};
 ghost use Rattle.ccd3.specs.Walk as Def;
+ghost use Rattle.ccd3.specs.SafeTime.{allowance};
 use crate::Answer;
 use crate::SafeTime;
 use crate::halving::close_in;
@@ -16,7 +17,7 @@ use number::order::larger;
 const ALLOWANCE: u32 = 4096;
 
 // Steps and probes, from time 0 where the distance rules say `first`, until one of the three ends.
-pub fn walk(
+pub(crate) fn walk(
     x0: [[f32; 3]; 4],
     dx: [[f32; 3]; 4],
     split: usize,
@@ -24,7 +25,7 @@ pub fn walk(
     l: Limits,
     first: Nearest,
 ) -> SafeTime
-    ensures { λ r. ⌜ r ≡ Def.told 0 (Def.walk x0 dx split threshold l 4096
+    ensures { λ r. ⌜ r ≡ Def.told 0 (Def.walk x0 dx split threshold l allowance
         (record { time = zero32; points = x0; near = first })) ⌝ }
 {
     let mut time = 0.0;

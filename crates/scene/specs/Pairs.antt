@@ -6,6 +6,7 @@ use Rattle.pair.specs.Norm.{normOf}
 use Rattle.admission.specs.declared.Limits.{Limits}
 use Rattle.ccd3.specs.declared.SafeTime.{SafeTime}
 use Rattle.ccd3.specs.SafeTime.{safeTimeOf}
+use Rattle.ccd3.specs.Promise.{Promises}
 use Rattle.scene.specs.Words.{word, number, point}
 use Rattle.scene.specs.Layout.{displacementsAt, pairAt, limitsAt, pointCount, pairCount}
 
@@ -33,8 +34,14 @@ pointsOf s i = gathered s 4 (pairAt (pointCount s) i + 4)
 abbrev pub displacementsOf : List ℕ → ℕ → List (List Float)
 displacementsOf s i = gathered s (displacementsAt (pointCount s) + 4) (pairAt (pointCount s) i + 4)
 
--- its safe time, where u_max is the norm of its displacements
+-- its limits, where u_max is the norm of its displacements
+abbrev pub limitsFor : List ℕ → ℕ → Limits
+limitsFor s i = limitsOf s (normOf (displacementsOf s i) (kindOf s i))
+
+-- its safe time
 unfoldable pub timeOf : List ℕ → ℕ → SafeTime
-timeOf s i =
-    safeTimeOf (pointsOf s i) (displacementsOf s i) (kindOf s i)
-    (limitsOf s (normOf (displacementsOf s i) (kindOf s i)))
+timeOf s i = safeTimeOf (pointsOf s i) (displacementsOf s i) (kindOf s i) (limitsFor s i)
+
+-- the promises of a safe time, of this pair
+abbrev pub Promised : List ℕ → ℕ → SafeTime → Type 0
+Promised s i = Promises (pointsOf s i) (displacementsOf s i) (kindOf s i) (limitsFor s i)

@@ -51,7 +51,8 @@ fn limits_of(s: &[u8], u_max: f32) -> Limits
 
 // The safe time of pair `index`.
 pub fn safe_time(s: &[u8], index: u32) -> SafeTime
-    ensures { λ r. ⌜ r ≡ Def.timeOf (now (s .entry)) index ⌝ }
+    ensures answer { λ r. ⌜ r ≡ Def.timeOf (now (s .entry)) index ⌝ }
+    ensures promised { λ r. ⌜ Def.Promised (now (s .entry)) index r ⌝ }
 {
     let points = point_count(s);
     let at = pair_at(points, index);

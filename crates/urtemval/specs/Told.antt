@@ -10,8 +10,7 @@ use Rattle.pair.specs.declared.norm.Normed.the-variants.{Norm, Refused as Refus
 use Rattle.motion.specs.declared.scaling.Scaling.{Scaling}
 use Rattle.motion.specs.declared.scaling.Scaling.the-variants.{Factor, Refused as RefusedScaling}
 use Rattle.ccd3.specs.declared.SafeTime as Walked
-use Rattle.ccd3.specs.declared.Answer.{Answer}
-use Rattle.ccd3.specs.declared.Answer.the-variants.{Touching, Contact, Clear, Budget, Refused}
+use Rattle.ccd3.specs.Answer.{refusalOf, kindOf, timeOf}
 use Rattle.urtemval.specs.declared.answer.SafeTime.{SafeTime}
 use Rattle.urtemval.specs.declared.answer.Value.{Value}
 
@@ -26,16 +25,8 @@ refused n = record { refusal = n; value = zero32 }
 abbrev pub timed : ℕ → ℕ → Float → Walked.SafeTime → SafeTime
 timed n k t s = record { refusal = n; kind = k; time = t; probes = s .probes; halvings = s .halvings }
 
--- 0 touching, 1 contact, 2 clear, 3 budget, 4 refused
-abbrev pub byAnswer : Answer → Walked.SafeTime → SafeTime
-byAnswer (Touching t) s = timed 0 0 t s
-byAnswer (Contact t) s = timed 0 1 t s
-byAnswer (Clear t) s = timed 0 2 t s
-byAnswer (Budget t) s = timed 0 3 t s
-byAnswer (Refused n) s = timed n 4 zero32 s
-
 unfoldable pub safeTime : Walked.SafeTime → SafeTime
-safeTime s = byAnswer (s .answer) s
+safeTime s = timed (refusalOf (s .answer)) (kindOf (s .answer)) (timeOf (s .answer)) s
 
 unfoldable pub norm : Normed → Value
 norm (Norm r) = given r

@@ -1,6 +1,7 @@
 // The safe time of a lent pair (`ccd3::safe_time::maximum_safe_time_accurate`).
 ghost use mathlib.Core.Path.{_≡_};
 ghost use Rattle.ccd3.specs.SafeTime.{safeTimeOf};
+ghost use Rattle.ccd3.specs.Promise.{Promised};
 ghost use Rattle.urtemval.specs.Told as Told;
 use crate::answer;
 use crate::answer::SafeTime;
@@ -13,7 +14,9 @@ pub extern "C" fn urtemval_safe_time(
     split: usize,
     limits: Limits,
 ) -> SafeTime
-    ensures { λ r. ⌜ r ≡ Told.safeTime (safeTimeOf (now (x0 .entry)) (now (dx .entry)) split limits) ⌝ }
+    ensures answer { λ r. ⌜ r ≡ Told.safeTime (safeTimeOf (now (x0 .entry)) (now (dx .entry)) split limits) ⌝ }
+    ensures promised { λ r. ⌜ Promised (now (x0 .entry)) (now (dx .entry)) split limits
+        (r .refusal) (r .kind) (r .time) (r .probes) (r .halvings) ⌝ }
 {
     let x = *x0;
     let d = *dx;

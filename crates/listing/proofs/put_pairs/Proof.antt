@@ -47,7 +47,7 @@ loop-again c =
     let line = c .before .before in
     let loop = line .before .before .before .before in
     let start = loop .before .before .before .before .before .before .before in
-    let put = rw (line .before .safe-time .ensures) at (line .put-line .ensures .0) in
+    let put = rw (line .before .safe-time .ensures .0) at (line .put-line .ensures .0) in
     (search needs, search needs, as-text (one-more (start .args .s .now) _) (and-then (loop .loop .inv .2) put))
 
 -- what the function was handed

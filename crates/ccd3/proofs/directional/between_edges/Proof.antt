@@ -1,36 +1,42 @@
--- `ccd3::directional::between_edges` meets its contract, by either way through its test. Assumes nothing.
+-- `ccd3::directional::between_edges` meets its contract: its tables have what each pair leaves. Assumes nothing.
 use borrow.Author.Needs.{needs}
-use Rattle.ccd3.proofs.CrossPairs.{edges-stop, edges-pass}
+use mathlib.Core.Path.{_∙_}
+use mathlib.Core.List.{flatMap}
+use Rattle.ccd3.specs.Directional.{columns, crossPairs}
+use Rattle.ccd3.proofs.CrossPairs.{Tabled, tables-give}
 use Rattle.ccd3.proofs.directional.between_edges.Statement.{statement}
 use Rattle.ccd3.proofs.directional.between_edges.Tie as tie
 
 returns : tie.Need-returns
+unfolding columns flatMap crossPairs Tabled
 returns c =
-    let r13 = c .before .before in
+    let t13 = c .before .before in
+    let t12 = t13 .before in
+    let t03 = t12 .before in
+    let t02 = t03 .before in
+    let r13 = t02 .before in
     let r12 = r13 .before in
     let r03 = r12 .before in
     let r02 = r03 .before in
-    edges-stop _ _ _ _ _ _ _ (r02 .projected .ensures) (r03 .projected2 .ensures) (r12 .projected3 .ensures)
-    (r13 .projected4 .ensures) (c .if1 .taken)
-
-returns-2 : tie.Need-returns-2
-returns-2 c =
-    let s12 = c .before in
-    let s03 = s12 .before in
-    let s02 = s03 .before in
-    let test = s02 .before in
-    let r13 = test .before .before in
-    let r12 = r13 .before in
-    let r03 = r12 .before in
-    let r02 = r03 .before in
-    rw (c .lessened4 .ensures, s12 .lessened3 .ensures, s03 .lessened2 .ensures, s02 .lessened .ensures)
-    (edges-pass _ _ _ _ _ _ _ (r02 .projected .ensures) (r03 .projected2 .ensures) (r12 .projected3 .ensures)
-    (r13 .projected4 .ensures) (test .if1 .left))
+    c .over-sides .ensures
+    ∙ tables-give _ _ _ _ _ (crossPairs 2) (
+      r02 .projected .ensures,
+      t02 .time-left .ensures,
+      (
+        r03 .projected2 .ensures,
+        t03 .time-left2 .ensures,
+        (
+          r12 .projected3 .ensures,
+          t12 .time-left3 .ensures,
+          (r13 .projected4 .ensures, t13 .time-left4 .ensures, tt),
+        ),
+      ),
+    )
 
 pub between-edges-spec : {M : Type 1} → statement M
 between-edges-spec =
     tie.close
     (tie.spec (λ c. search needs) (λ c. search needs) (λ c. search needs) (λ c. search needs) (λ c. search needs)
     (λ c. search needs) (λ c. search needs) (λ c. search needs) (λ c κs. search needs) (λ c κs. search needs)
-    (λ c κs. search needs) (λ c κs. search needs) returns (λ c κs. search needs) (λ c κs. search needs)
-    (λ c κs. search needs) (λ c κs. search needs) returns-2)
+    (λ c κs. search needs) (λ c κs. search needs) (λ c κs. search needs) (λ c κs. search needs) (λ c κs. search needs)
+    (λ c κs. search needs) (λ c κs. search needs) returns)

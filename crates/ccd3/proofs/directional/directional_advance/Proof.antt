@@ -1,15 +1,18 @@
 -- `ccd3::directional::directional_advance` meets its contract, by either split. Assumes nothing.
 use borrow.Author.Needs.{needs}
+use borrow.Author.Tests.{eq-eqb, ne-eqb}
 use mathlib.Core.Path.{_∙_}
-use Rattle.ccd3.proofs.CrossPairs.{edges-asked, face-asked}
+use Rattle.ccd3.specs.Directional.{directional}
 use Rattle.ccd3.proofs.directional.directional_advance.Statement.{statement}
 use Rattle.ccd3.proofs.directional.directional_advance.Tie as tie
 
 returns : tie.Need-returns
-returns c = c .between-edges .ensures ∙ edges-asked _ _ _ _ (c .before .if1 .taken)
+unfolding directional
+returns c = c .between-edges .ensures ∙ rw (eq-eqb _ 2 (c .before .if1 .taken))
 
 returns-2 : tie.Need-returns-2
-returns-2 c = c .face-to-vertex .ensures ∙ face-asked _ _ _ _ (c .before .if1 .left)
+unfolding directional
+returns-2 c = c .face-to-vertex .ensures ∙ rw (ne-eqb _ 2 (c .before .if1 .left))
 
 pub directional-advance-spec : {M : Type 1} → statement M
 directional-advance-spec =

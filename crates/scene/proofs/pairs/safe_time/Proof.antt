@@ -43,11 +43,11 @@ limits-of-requires c κs = search needs
 maximum-safe-time-accurate-requires : tie.Need-maximum-safe-time-accurate-requires
 maximum-safe-time-accurate-requires c κs = search needs
 
+-- the answer and its promises, with each value as the definition has it
 returns : tie.Need-returns
 unfolding timeOf
 returns c =
     rw (
-      c .maximum-safe-time-accurate .ensures .0,
       c .before .limits-of .ensures,
       c .before .before .norm .ensures,
       c .before .before .before .gathered2 .ensures,
@@ -56,7 +56,7 @@ returns c =
       c .before .before .before .before .before .before .word .ensures,
       c .before .before .before .before .before .before .before .pair-at .ensures .0,
       c .before .before .before .before .before .before .before .before .point-count .ensures,
-    )
+    ) at (c .maximum-safe-time-accurate .ensures)
 
 pub safe-time-spec : {M : Type 1} → statement M
 safe-time-spec =

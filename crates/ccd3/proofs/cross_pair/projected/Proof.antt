@@ -1,8 +1,8 @@
--- `ccd3::directional::projected` meets its contract. Assumes nothing.
+-- `ccd3::cross_pair::projected` meets its contract. Assumes nothing.
 use borrow.Author.Needs.{needs}
 use Rattle.ccd3.specs.Directional.{projected}
-use Rattle.ccd3.proofs.directional.projected.Statement.{statement}
-use Rattle.ccd3.proofs.directional.projected.Tie as tie
+use Rattle.ccd3.proofs.cross_pair.projected.Statement.{statement}
+use Rattle.ccd3.proofs.cross_pair.projected.Tie as tie
 
 returns : tie.Need-returns
 unfolding projected
