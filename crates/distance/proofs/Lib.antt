@@ -1,8 +1,7 @@
 -- The laws of the distance rules. Others cite what is public: facts of each candidate of a pair, and of the answer.
 mod Choice
 mod Above
-mod EdgeChoice
-mod FaceChoice
+mod Found
 mod Split
 mod Weights
 pub mod Ratios
