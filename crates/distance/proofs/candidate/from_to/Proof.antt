@@ -26,6 +26,6 @@ pub from-to-spec : {M : Type 1} → statement M
 from-to-spec =
     tie.close
     (tie.spec
-    (λ c κs. search needs)
-    (λ c κs. search needs)
+    (λ c κs. tt)
+    (λ c κs. tt)
     returns)

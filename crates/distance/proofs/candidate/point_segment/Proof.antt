@@ -12,6 +12,6 @@ pub point-segment-spec : {M : Type 1} → statement M
 point-segment-spec =
     tie.close
     (tie.spec
-    (λ c κs. search needs)
-    (λ c κs. search needs)
+    (λ c κs. tt)
+    (λ c κs. tt)
     returns)

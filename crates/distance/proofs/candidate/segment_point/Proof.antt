@@ -12,6 +12,6 @@ pub segment-point-spec : {M : Type 1} → statement M
 segment-point-spec =
     tie.close
     (tie.spec
-    (λ c κs. search needs)
-    (λ c κs. search needs)
+    (λ c κs. tt)
+    (λ c κs. tt)
     returns)

@@ -24,7 +24,7 @@ gave c =
     let end0 = end1 .before in
     given
     (edges-found _ _ _ _ (end0 .point-segment .ensures) (end1 .point-segment2 .ensures) (end2 .segment-point .ensures)
-    (end3 .segment-point2 .ensures) (end0 .before .edge-products .ensures) (last .interior .ensures)
+    (end3 .segment-point2 .ensures) (end0 .before .products-of .ensures) (last .interior .ensures)
     (c .edges-meet .ensures))
     (more (more (more one (first .smaller .ensures)) (two .smaller2 .ensures)) (three .smaller3 .ensures))
 
@@ -62,16 +62,16 @@ pub edge-edge-spec : {M : Type 1} → statement M
 edge-edge-spec =
     tie.close
     (tie.spec
-    (λ c κs. search needs)
-    (λ c κs. search needs)
-    (λ c κs. search needs)
-    (λ c κs. search needs)
-    (λ c κs. search needs)
-    (λ c κs. search needs)
-    (λ c κs. search needs)
-    (λ c κs. search needs)
-    (λ c κs. search needs)
-    (λ c κs. search needs)
+    (λ c κs. tt)
+    (λ c κs. tt)
+    (λ c κs. tt)
+    (λ c κs. tt)
+    (λ c κs. tt)
+    (λ c κs. tt)
+    (λ c κs. tt)
+    (λ c κs. tt)
+    (λ c κs. tt)
+    (λ c κs. tt)
     returns
     returns-2
     returns-3

@@ -11,7 +11,7 @@ returns : tie.Need-returns
 returns c =
     let meet = c .before .before in
     inner-reaches _
-    (edges-found _ _ _ _ refl refl refl refl (meet .before .before .edge-products .ensures)
+    (edges-found _ _ _ _ refl refl refl refl (meet .before .before .products-of .ensures)
     (meet .before .interior .ensures) (meet .edges-meet .ensures))
     (c .if1 .taken)
 
@@ -25,7 +25,7 @@ returns-2 c =
     let meet = end0 .before .before .before in
     inner-clears _
     (edges-found _ _ _ _ (end0 .point-segment .ensures) (end1 .point-segment2 .ensures)
-    (end2 .segment-point .ensures) (end3 .segment-point2 .ensures) (meet .before .before .edge-products .ensures)
+    (end2 .segment-point .ensures) (end3 .segment-point2 .ensures) (meet .before .before .products-of .ensures)
     (meet .before .interior .ensures) (meet .edges-meet .ensures))
     (end0 .before .if1 .left)
 
@@ -33,12 +33,12 @@ pub edges-above-spec : {M : Type 1} → statement M
 edges-above-spec =
     tie.close
     (tie.spec
-    (λ c κs. search needs)
-    (λ c κs. search needs)
-    (λ c κs. search needs)
+    (λ c κs. tt)
+    (λ c κs. tt)
+    (λ c κs. tt)
     returns
-    (λ c κs. search needs)
-    (λ c κs. search needs)
-    (λ c κs. search needs)
-    (λ c κs. search needs)
+    (λ c κs. tt)
+    (λ c κs. tt)
+    (λ c κs. tt)
+    (λ c κs. tt)
     returns-2)

@@ -11,7 +11,7 @@ returns : tie.Need-returns
 returns c =
     let over = c .before .before in
     inner-reaches _
-    (face-found _ _ _ _ refl refl refl (over .before .before .face-products .ensures)
+    (face-found _ _ _ _ refl refl refl (over .before .before .products-of .ensures)
     (over .before .interior .ensures) (over .over-face .ensures))
     (c .if1 .taken)
 
@@ -24,7 +24,7 @@ returns-2 c =
     let over = edge0 .before .before .before in
     inner-clears _
     (face-found _ _ _ _ (edge0 .segment-point .ensures) (edge1 .segment-point2 .ensures)
-    (edge2 .segment-point3 .ensures) (over .before .before .face-products .ensures)
+    (edge2 .segment-point3 .ensures) (over .before .before .products-of .ensures)
     (over .before .interior .ensures) (over .over-face .ensures))
     (edge0 .before .if1 .left)
 
@@ -32,11 +32,11 @@ pub face-above-spec : {M : Type 1} → statement M
 face-above-spec =
     tie.close
     (tie.spec
-    (λ c κs. search needs)
-    (λ c κs. search needs)
-    (λ c κs. search needs)
+    (λ c κs. tt)
+    (λ c κs. tt)
+    (λ c κs. tt)
     returns
-    (λ c κs. search needs)
-    (λ c κs. search needs)
-    (λ c κs. search needs)
+    (λ c κs. tt)
+    (λ c κs. tt)
+    (λ c κs. tt)
     returns-2)

@@ -22,7 +22,7 @@ gave c =
     let edge0 = edge1 .before in
     given
     (face-found _ _ _ _ (edge0 .segment-point .ensures) (edge1 .segment-point2 .ensures)
-    (edge2 .segment-point3 .ensures) (edge0 .before .face-products .ensures) (last .interior .ensures)
+    (edge2 .segment-point3 .ensures) (edge0 .before .products-of .ensures) (last .interior .ensures)
     (c .over-face .ensures))
     (more (more one (first .smaller .ensures)) (two .smaller2 .ensures))
 
@@ -51,14 +51,14 @@ pub face-vertex-spec : {M : Type 1} → statement M
 face-vertex-spec =
     tie.close
     (tie.spec
-    (λ c κs. search needs)
-    (λ c κs. search needs)
-    (λ c κs. search needs)
-    (λ c κs. search needs)
-    (λ c κs. search needs)
-    (λ c κs. search needs)
-    (λ c κs. search needs)
-    (λ c κs. search needs)
+    (λ c κs. tt)
+    (λ c κs. tt)
+    (λ c κs. tt)
+    (λ c κs. tt)
+    (λ c κs. tt)
+    (λ c κs. tt)
+    (λ c κs. tt)
+    (λ c κs. tt)
     returns
     returns-2
     returns-3

@@ -13,15 +13,13 @@ returns c =
       c .before .before .dot3 .ensures,
       c .before .before .before .dot2 .ensures,
       c .before .before .before .before .dot .ensures,
+      c .before .before .before .before .before .sub3 .ensures,
+      c .before .before .before .before .before .before .sub2 .ensures,
+      c .before .before .before .before .before .before .before .sub .ensures,
     )
 
 pub products-of-spec : {M : Type 1} → statement M
 products-of-spec =
     tie.close
-    (tie.spec
-    (λ c κs. search needs)
-    (λ c κs. search needs)
-    (λ c κs. search needs)
-    (λ c κs. search needs)
-    (λ c κs. search needs)
-    returns)
+    (tie.spec (λ c κs. tt) (λ c κs. tt) (λ c κs. tt) (λ c κs. tt) (λ c κs. tt) (λ c κs. tt) (λ c κs. tt)
+    (λ c κs. tt) returns)
