@@ -1,6 +1,6 @@
 -- The candidates of either split (specs/EdgeEdge.antt, specs/FaceVertex.antt) as calls find them one by one: those of
 -- the definition. Assumes nothing.
-use mathlib.Core.Path.{_≡_, ap, _∙_}
+use mathlib.Core.Path.{_≡_}
 use mathlib.Core.Bool.{Bool}
 use mathlib.Core.List.{List, [], _∷_}
 use lib.Ieee.{Float}
@@ -8,7 +8,7 @@ use Rattle.geometry.specs.Vec3.{minus}
 use Rattle.distance.specs.declared.candidate.Nearest.{Nearest}
 use Rattle.distance.specs.declared.products.Products.{Products}
 use Rattle.distance.specs.Products.{productsOf}
-use Rattle.distance.specs.Candidate.{pointSegment, segmentPoint, nearestFrom, only}
+use Rattle.distance.specs.Candidate.{pointSegment, segmentPoint, nearestFrom}
 use Rattle.distance.specs.EdgeEdge.{edgeProducts, edgesMeet, edgeInterior, edgeEdge}
 use Rattle.distance.specs.FaceVertex.{faceProducts, overFace, faceInterior, faceVertex}
 use Rattle.distance.proofs.Choice.{nearestBack, Found}

@@ -5,13 +5,13 @@ ghost use mathlib.Core.Path.{_≡_};
 ghost use Rattle.geometry.specs.Vec3.{minus};
 ghost use Rattle.distance.specs.Products as Def;
 
-pub struct Products {
-    pub a: f32,
-    pub b: f32,
-    pub c: f32,
-    pub d: f32,
-    pub e: f32,
-    pub det: f32,
+pub(crate) struct Products {
+    pub(crate) a: f32,
+    pub(crate) b: f32,
+    pub(crate) c: f32,
+    pub(crate) d: f32,
+    pub(crate) e: f32,
+    pub(crate) det: f32,
 }
 
 // Of the directions from u0 to u1 and from v0 to v1 and the gap from w0 to w1.

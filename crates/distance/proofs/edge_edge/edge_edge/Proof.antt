@@ -1,6 +1,5 @@
 -- `distance::edge_edge::edge_edge` meets its contract: what it answers is the last candidate that is nearer than all
 -- before it, which is the first smallest. Assumes nothing.
-use borrow.Author.Needs.{needs}
 use Rattle.distance.specs.EdgeEdge.{edgeEdge}
 use Rattle.distance.proofs.Choice.{one, more, start, taken, passed, Given, given, inner-answered, end-answered}
 use Rattle.distance.proofs.Found.{edges-found}
@@ -61,19 +60,5 @@ returns-5 c =
 pub edge-edge-spec : {M : Type 1} → statement M
 edge-edge-spec =
     tie.close
-    (tie.spec
-    (λ c κs. tt)
-    (λ c κs. tt)
-    (λ c κs. tt)
-    (λ c κs. tt)
-    (λ c κs. tt)
-    (λ c κs. tt)
-    (λ c κs. tt)
-    (λ c κs. tt)
-    (λ c κs. tt)
-    (λ c κs. tt)
-    returns
-    returns-2
-    returns-3
-    returns-4
-    returns-5)
+    (tie.spec (λ c κs. tt) (λ c κs. tt) (λ c κs. tt) (λ c κs. tt) (λ c κs. tt) (λ c κs. tt) (λ c κs. tt)
+    (λ c κs. tt) (λ c κs. tt) (λ c κs. tt) returns returns-2 returns-3 returns-4 returns-5)

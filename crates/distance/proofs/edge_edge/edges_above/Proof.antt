@@ -1,6 +1,5 @@
 -- `distance::edge_edge::edges_above` meets its contract: the interior candidate settles it, or all the others do.
 -- Assumes nothing.
-use borrow.Author.Needs.{needs}
 use mathlib.Core.Path.{refl}
 use Rattle.distance.proofs.Above.{allAbove, inner-reaches, inner-clears}
 use Rattle.distance.proofs.Found.{edges-found}
@@ -32,13 +31,5 @@ returns-2 c =
 pub edges-above-spec : {M : Type 1} → statement M
 edges-above-spec =
     tie.close
-    (tie.spec
-    (λ c κs. tt)
-    (λ c κs. tt)
-    (λ c κs. tt)
-    returns
-    (λ c κs. tt)
-    (λ c κs. tt)
-    (λ c κs. tt)
-    (λ c κs. tt)
+    (tie.spec (λ c κs. tt) (λ c κs. tt) (λ c κs. tt) returns (λ c κs. tt) (λ c κs. tt) (λ c κs. tt) (λ c κs. tt)
     returns-2)

@@ -1,6 +1,5 @@
 -- `distance::face_vertex::face_above` meets its contract: the interior candidate settles it, or all the others do.
 -- Assumes nothing.
-use borrow.Author.Needs.{needs}
 use mathlib.Core.Path.{refl}
 use Rattle.distance.proofs.Above.{allAbove, inner-reaches, inner-clears}
 use Rattle.distance.proofs.Found.{face-found}
@@ -31,12 +30,4 @@ returns-2 c =
 pub face-above-spec : {M : Type 1} → statement M
 face-above-spec =
     tie.close
-    (tie.spec
-    (λ c κs. tt)
-    (λ c κs. tt)
-    (λ c κs. tt)
-    returns
-    (λ c κs. tt)
-    (λ c κs. tt)
-    (λ c κs. tt)
-    returns-2)
+    (tie.spec (λ c κs. tt) (λ c κs. tt) (λ c κs. tt) returns (λ c κs. tt) (λ c κs. tt) (λ c κs. tt) returns-2)

@@ -1,6 +1,5 @@
 -- `distance::face_vertex::face_vertex` meets its contract: what it answers is the last candidate that is nearer than
 -- all before it, which is the first smallest. Assumes nothing.
-use borrow.Author.Needs.{needs}
 use Rattle.distance.specs.FaceVertex.{faceVertex}
 use Rattle.distance.proofs.Choice.{one, more, start, taken, passed, Given, given, inner-answered, end-answered}
 use Rattle.distance.proofs.Found.{face-found}
@@ -50,16 +49,5 @@ returns-4 c =
 pub face-vertex-spec : {M : Type 1} → statement M
 face-vertex-spec =
     tie.close
-    (tie.spec
-    (λ c κs. tt)
-    (λ c κs. tt)
-    (λ c κs. tt)
-    (λ c κs. tt)
-    (λ c κs. tt)
-    (λ c κs. tt)
-    (λ c κs. tt)
-    (λ c κs. tt)
-    returns
-    returns-2
-    returns-3
-    returns-4)
+    (tie.spec (λ c κs. tt) (λ c κs. tt) (λ c κs. tt) (λ c κs. tt) (λ c κs. tt) (λ c κs. tt) (λ c κs. tt)
+    (λ c κs. tt) returns returns-2 returns-3 returns-4)
