@@ -15,7 +15,7 @@ use Rattle.distance.proofs.Choice.{nearestBack, Found}
 use Rattle.number.proofs.Transitive.{lt-trans, le-lt-trans, lt-not-le}
 
 module _ (t : Float) where
-  -- the first is above t, and no end is at or below it
+  -- the first is above t, and none of the list is at or below it
   unfoldable pub allAbove : Nearest → List Nearest → Bool
   allAbove first [] = lt t (first .squared)
   allAbove first (b ∷ before) = allAbove first before && not (le (b .squared) t)
@@ -50,7 +50,8 @@ module _ (t : Float) where
       go true f g = f tt
       go false f g = g tt
 
-  above-back : (first : Nearest) (ends : List Nearest) → lt t (nearestBack first ends .squared) ≡ allAbove first ends
+  above-back : (first : Nearest) (middle : List Nearest)
+      → lt t (nearestBack first middle .squared) ≡ allAbove first middle
   unfolding nearestBack allAbove
   above-back first [] = refl
   above-back first (b ∷ before) =
@@ -79,13 +80,13 @@ module _ (t : Float) where
   last-clears a b false h = refl
 
   -- the candidates as calls found them
-  module _ {c : Candidates} {first inner : Nearest} {ends : List Nearest} {there : Bool}
-      (f : Found c first ends there inner) where
+  module _ {c : Candidates} {first inner : Nearest} {middle : List Nearest} {there : Bool}
+      (f : Found c first middle there inner) where
     pub inner-reaches : there && le (inner .squared) t ≡ true → false ≡ lt t (firstSmallest c .squared)
     inner-reaches h =
         sym (last-reaches _ inner there h) ∙ ap (λ (n : Nearest). lt t (n .squared)) (f .all)
 
-    pub inner-clears : there && le (inner .squared) t ≡ false → allAbove first ends ≡ lt t (firstSmallest c .squared)
+    pub inner-clears : there && le (inner .squared) t ≡ false → allAbove first middle ≡ lt t (firstSmallest c .squared)
     inner-clears h =
-        sym (above-back first ends) ∙ sym (last-clears _ inner there h)
+        sym (above-back first middle) ∙ sym (last-clears _ inner there h)
         ∙ ap (λ (n : Nearest). lt t (n .squared)) (f .all)

@@ -1,7 +1,7 @@
 -- `distance::edge_edge::edge_edge` meets its contract: what it answers is the last candidate that is nearer than all
 -- before it, which is the first smallest. Assumes nothing.
 use Rattle.distance.specs.EdgeEdge.{edgeEdge}
-use Rattle.distance.proofs.Choice.{one, more, start, taken, passed, Given, given, inner-answered, end-answered}
+use Rattle.distance.proofs.Choice.{one, more, start, taken, passed, Given, given, inner-answered, other-answered}
 use Rattle.distance.proofs.Found.{edges-found}
 use Rattle.distance.proofs.edge_edge.edge_edge.Statement.{statement}
 use Rattle.distance.proofs.edge_edge.edge_edge.Tie as tie
@@ -33,20 +33,20 @@ returns c = inner-answered (gave (c .before .before)) (c .if1 .taken)
 returns-2 : tie.Need-returns-2
 returns-2 c =
     let else1 = c .before .before in
-    end-answered (gave (else1 .before .before)) (else1 .if1 .left) (taken (c .if2 .taken))
+    other-answered (gave (else1 .before .before)) (else1 .if1 .left) (taken (c .if2 .taken))
 
 returns-3 : tie.Need-returns-3
 returns-3 c =
     let else2 = c .before .before in
     let else1 = else2 .before .before in
-    end-answered (gave (else1 .before .before)) (else1 .if1 .left) (passed (else2 .if2 .left) (taken (c .if3 .taken)))
+    other-answered (gave (else1 .before .before)) (else1 .if1 .left) (passed (else2 .if2 .left) (taken (c .if3 .taken)))
 
 returns-4 : tie.Need-returns-4
 returns-4 c =
     let else3 = c .before .before .before in
     let else2 = else3 .before .before in
     let else1 = else2 .before .before in
-    end-answered (gave (else1 .before .before)) (else1 .if1 .left)
+    other-answered (gave (else1 .before .before)) (else1 .if1 .left)
     (passed (else2 .if2 .left) (passed (else3 .if3 .left) (taken (c .if4 .taken))))
 
 returns-5 : tie.Need-returns-5
@@ -54,7 +54,7 @@ returns-5 c =
     let else3 = c .before .before .before in
     let else2 = else3 .before .before in
     let else1 = else2 .before .before in
-    end-answered (gave (else1 .before .before)) (else1 .if1 .left)
+    other-answered (gave (else1 .before .before)) (else1 .if1 .left)
     (passed (else2 .if2 .left) (passed (else3 .if3 .left) (passed (c .if4 .left) start)))
 
 pub edge-edge-spec : {M : Type 1} → statement M
