@@ -1,6 +1,6 @@
 -- Whether the first smallest squared distance is above a threshold, from the candidates one by one: the first is above
 -- it, and no other is at or below it. A NaN among the others is passed over, as in the choice. Assumes nothing.
-use mathlib.Core.Path.{_≡_, refl, ap, _∙_}
+use mathlib.Core.Path.{_≡_, refl, sym, ap, _∙_}
 use mathlib.Core.Bool.{Bool, true, false, not, _&&_, cond, false≢true}
 use mathlib.Core.List.{List, [], _∷_}
 use lib.Dec.{T, T-not, not-T}
@@ -10,14 +10,15 @@ use Rattle.number.proofs.Units.Compared.{same-test}
 use Rattle.number.proofs.NoNan.{no-nan-lt}
 use Rattle.number.proofs.Comparing.{not-lt-le}
 use Rattle.distance.specs.declared.candidate.Nearest.{Nearest}
-use Rattle.distance.specs.Candidate.{nearer, nearestFrom, only}
+use Rattle.distance.specs.Candidate.{Candidates, nearer, nearestFrom, firstSmallest, only}
+use Rattle.distance.proofs.Choice.{nearestBack, Found}
 use Rattle.number.proofs.Transitive.{lt-trans, le-lt-trans, lt-not-le}
 
 module _ (t : Float) where
-  -- b, and no candidate of the list is at or below t
-  unfoldable pub still : Bool → List Nearest → Bool
-  still b [] = b
-  still b (c ∷ rest) = still (b && not (le (c .squared) t)) rest
+  -- the first is above t, and none of the list is at or below it
+  unfoldable pub allAbove : Nearest → List Nearest → Bool
+  allAbove first [] = lt t (first .squared)
+  allAbove first (b ∷ before) = allAbove first before && not (le (b .squared) t)
 
   -- x is the least so far, y the next
   module _ (x y : Float) where
@@ -49,27 +50,43 @@ module _ (t : Float) where
       go true f g = f tt
       go false f g = g tt
 
-  pub above-from : (a : Nearest) (rest : List Nearest)
-      → lt t (nearestFrom a rest .squared) ≡ still (lt t (a .squared)) rest
-  unfolding nearestFrom still
-  above-from a [] = refl
-  above-from a (b ∷ rest) = above-from (nearer a b) rest ∙ ap (λ (z : Bool). still z rest) (above-nearer a b)
+  above-back : (first : Nearest) (middle : List Nearest)
+      → lt t (nearestBack first middle .squared) ≡ allAbove first middle
+  unfolding nearestBack allAbove
+  above-back first [] = refl
+  above-back first (b ∷ before) =
+      above-nearer (nearestBack first before) b
+      ∙ ap (λ (z : Bool). z && not (le (b .squared) t)) (above-back first before)
 
-  -- a last candidate that is there only where the test m holds
-  pub last-reaches : (b m : Bool) (c : Nearest) → m && le (c .squared) t ≡ true → still b (only m c) ≡ false
-  unfolding still only
-  last-reaches b true c h = rw h (none b)
+  -- after a comes the interior candidate where it is there
+  last-reaches : (a b : Nearest) (there : Bool) → there && le (b .squared) t ≡ true
+      → lt t (nearestFrom a (only there b) .squared) ≡ false
+  unfolding nearestFrom only
+  last-reaches a b true h = above-nearer a b ∙ rw h (none (lt t (a .squared)))
     where
       none : (b : Bool) → b && false ≡ false
       none true = refl
       none false = refl
-  last-reaches b false c h = absurd (false≢true h)
+  last-reaches a b false h = absurd (false≢true h)
 
-  pub last-clears : (b m : Bool) (c : Nearest) → m && le (c .squared) t ≡ false → still b (only m c) ≡ b
-  unfolding still only
-  last-clears b true c h = rw h (same b)
+  last-clears : (a b : Nearest) (there : Bool) → there && le (b .squared) t ≡ false
+      → lt t (nearestFrom a (only there b) .squared) ≡ lt t (a .squared)
+  unfolding nearestFrom only
+  last-clears a b true h = above-nearer a b ∙ rw h (same (lt t (a .squared)))
     where
       same : (b : Bool) → b && true ≡ b
       same true = refl
       same false = refl
-  last-clears b false c h = refl
+  last-clears a b false h = refl
+
+  -- the candidates as calls found them
+  module _ {c : Candidates} {first inner : Nearest} {middle : List Nearest} {there : Bool}
+      (f : Found c first middle there inner) where
+    pub inner-reaches : there && le (inner .squared) t ≡ true → false ≡ lt t (firstSmallest c .squared)
+    inner-reaches h =
+        sym (last-reaches _ inner there h) ∙ ap (λ (n : Nearest). lt t (n .squared)) (f .all)
+
+    pub inner-clears : there && le (inner .squared) t ≡ false → allAbove first middle ≡ lt t (firstSmallest c .squared)
+    inner-clears h =
+        sym (above-back first middle) ∙ sym (last-clears _ inner there h)
+        ∙ ap (λ (n : Nearest). lt t (n .squared)) (f .all)

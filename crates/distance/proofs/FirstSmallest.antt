@@ -1,5 +1,7 @@
--- The chosen candidate is the first smallest of the list: those before it are not at or below it, those after it are
--- not below it. A NaN is passed over, unless it comes first. Assumes nothing.
+-- What is answered for a pair (specs/Nearest.antt) is the first smallest of its candidates: those before it are not at
+-- or below it, those after it are not below it. A NaN is passed over, unless it comes first. Proved once for both
+-- splits. Assumes nothing.
+use Prim.Native.Nat.{ℕ}
 use mathlib.Core.Path.{_≡_, refl, sym, ap, _∙_, subst}
 use mathlib.Core.Logic.{_⊎_, inl, inr}
 use mathlib.Core.Bool.{Bool, true, false, not}
@@ -7,10 +9,11 @@ use mathlib.Core.List.{List, [], _∷_}
 use lib.Dec.{T, T-not}
 use lib.Ieee.{Float, lt, le, isNan}
 use Rattle.number.proofs.NoNan.{no-nan-lt, no-nan-le}
-use Rattle.number.proofs.Comparing.{not-lt-le, lt-le}
-use Rattle.number.proofs.Transitive.{lt-trans, le-lt-trans, lt-self, lt-not-le}
+use Rattle.number.proofs.Comparing.{not-lt-le}
+use Rattle.number.proofs.Transitive.{lt-trans, le-lt-trans, lt-not-le}
 use Rattle.distance.specs.declared.candidate.Nearest.{Nearest}
-use Rattle.distance.specs.Candidate.{Candidates, nearer, nearestFrom, firstSmallest}
+use Rattle.distance.specs.Candidate.{nearer, nearestFrom}
+use Rattle.distance.specs.Nearest.{candidatesOf, nearestOf}
 use Rattle.distance.proofs.Choice.{nearer-takes, nearer-stays}
 use Rattle.distance.proofs.Listed.{listed, Each}
 
@@ -102,18 +105,6 @@ unfolding FirstOf nearestFrom Each
 from-first a [] = inl (refl, tt)
 from-first a (b ∷ rest) = step a b rest (λ (c : Nearest). from-first c rest) (lt (b .squared) (a .squared)) refl
 
-pub smallest-first : (c : Candidates) → FirstOf (listed c) (firstSmallest c)
-smallest-first c = from-first (c .first) (c .others)
-
--- so none is below it
-pub none-below : (l : List Nearest) (r : Nearest) → FirstOf l r
-    → Each (λ (c : Nearest). lt (c .squared) (r .squared) ≡ false) l
-unfolding FirstOf Each
-none-below [] r h = absurd h
-none-below (c ∷ rest) r (inl (e, f)) =
-    (subst (λ (d : Nearest). lt (c .squared) (d .squared) ≡ false) (sym e) (is-false _ (lt-self (c .squared))), f)
-none-below (c ∷ rest) r (inr (e, f)) = (
-  is-false (lt (c .squared) (r .squared))
-      (λ k. none (le (c .squared) (r .squared)) e (lt-le (c .squared) (r .squared) k)),
-  none-below rest r f,
-)
+pub nearest-first : (split : ℕ) (x : List (List Float)) → FirstOf (listed (candidatesOf split x)) (nearestOf split x)
+unfolding nearestOf
+nearest-first split x = from-first (candidatesOf split x .first) (candidatesOf split x .others)

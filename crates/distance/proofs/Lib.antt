@@ -1,13 +1,11 @@
--- The laws of the distance rules. Others cite what is public: facts of each candidate of a pair, and of the answer.
+-- The laws of the distance rules. Others cite what is public: what is known of the answer.
 mod Choice
+mod Found
 mod Above
-mod EdgeChoice
-mod FaceChoice
 mod Split
+mod Listed
+mod Ratios
 mod Weights
-pub mod Ratios
-pub mod Listed
 pub mod Measured
 pub mod FirstSmallest
-pub mod Answer
 pub mod Alike

@@ -4,19 +4,12 @@ use super::candidate::Nearest;
 use super::products;
 use super::products::Products;
 use geometry::edge3;
-use geometry::vec3;
 use number::order;
 use number::range;
 ghost use mathlib.Core.Path.{_≡_};
 ghost use lib.Ieee.{lt};
 ghost use Rattle.distance.specs.Candidate.{firstSmallest};
 ghost use Rattle.distance.specs.EdgeEdge as Def;
-
-fn edge_products(x0: [f32; 3], x1: [f32; 3], x2: [f32; 3], x3: [f32; 3]) -> Products
-    ensures { λ r. ⌜ r ≡ Def.edgeProducts x0 x1 x2 x3 ⌝ }
-{
-    products::products_of(vec3::sub(x1, x0), vec3::sub(x3, x2), vec3::sub(x0, x2))
-}
 
 // Whether the interior candidate is there.
 fn edges_meet(p: Products) -> bool
@@ -40,7 +33,7 @@ fn interior(p: Products, x0: [f32; 3], x1: [f32; 3], x2: [f32; 3], x3: [f32; 3])
 pub(crate) fn edge_edge(x0: [f32; 3], x1: [f32; 3], x2: [f32; 3], x3: [f32; 3]) -> Nearest
     ensures { λ r. ⌜ r ≡ firstSmallest (Def.edgeEdge x0 x1 x2 x3) ⌝ }
 {
-    let p = edge_products(x0, x1, x2, x3);
+    let p = products::products_of(x0, x1, x2, x3, x2, x0);
     let c0 = candidate::point_segment(0, x0, x2, x3);
     let c1 = candidate::point_segment(1, x1, x2, x3);
     let c2 = candidate::segment_point(2, x0, x1, x2);
@@ -75,7 +68,7 @@ pub(crate) fn edges_above(
 ) -> bool
     ensures { λ r. ⌜ r ≡ lt threshold (firstSmallest (Def.edgeEdge x0 x1 x2 x3) .squared) ⌝ }
 {
-    let p = edge_products(x0, x1, x2, x3);
+    let p = products::products_of(x0, x1, x2, x3, x2, x0);
     let inner = interior(p, x0, x1, x2, x3);
     if edges_meet(p) & (inner.squared <= threshold) {
         return false;

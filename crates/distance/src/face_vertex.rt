@@ -10,12 +10,6 @@ ghost use lib.Ieee.{lt};
 ghost use Rattle.distance.specs.Candidate.{firstSmallest};
 ghost use Rattle.distance.specs.FaceVertex as Def;
 
-fn face_products(x0: [f32; 3], x1: [f32; 3], x2: [f32; 3], x3: [f32; 3]) -> Products
-    ensures { λ r. ⌜ r ≡ Def.faceProducts x0 x1 x2 x3 ⌝ }
-{
-    products::products_of(vec3::sub(x1, x0), vec3::sub(x2, x0), vec3::sub(x3, x0))
-}
-
 // Whether the interior candidate is there.
 fn over_face(p: Products) -> bool
     ensures { λ r. ⌜ r ≡ Def.overFace p ⌝ }
@@ -38,7 +32,7 @@ fn interior(p: Products, x0: [f32; 3], x1: [f32; 3], x2: [f32; 3], x3: [f32; 3])
 pub(crate) fn face_vertex(x0: [f32; 3], x1: [f32; 3], x2: [f32; 3], x3: [f32; 3]) -> Nearest
     ensures { λ r. ⌜ r ≡ firstSmallest (Def.faceVertex x0 x1 x2 x3) ⌝ }
 {
-    let p = face_products(x0, x1, x2, x3);
+    let p = products::products_of(x0, x1, x0, x2, x0, x3);
     let c0 = candidate::segment_point(0, x0, x1, x3);
     let c1 = candidate::segment_point(1, x1, x2, x3);
     let c2 = candidate::segment_point(2, x2, x0, x3);
@@ -68,7 +62,7 @@ pub(crate) fn face_above(
 ) -> bool
     ensures { λ r. ⌜ r ≡ lt threshold (firstSmallest (Def.faceVertex x0 x1 x2 x3) .squared) ⌝ }
 {
-    let p = face_products(x0, x1, x2, x3);
+    let p = products::products_of(x0, x1, x0, x2, x0, x3);
     let inner = interior(p, x0, x1, x2, x3);
     if over_face(p) & (inner.squared <= threshold) {
         return false;

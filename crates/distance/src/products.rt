@@ -2,21 +2,32 @@
 // (docs/01-scope.md, "Our distance rules").
 use geometry::vec3;
 ghost use mathlib.Core.Path.{_≡_};
+ghost use Rattle.geometry.specs.Vec3.{minus};
 ghost use Rattle.distance.specs.Products as Def;
 
-pub struct Products {
-    pub a: f32,
-    pub b: f32,
-    pub c: f32,
-    pub d: f32,
-    pub e: f32,
-    pub det: f32,
+pub(crate) struct Products {
+    pub(crate) a: f32,
+    pub(crate) b: f32,
+    pub(crate) c: f32,
+    pub(crate) d: f32,
+    pub(crate) e: f32,
+    pub(crate) det: f32,
 }
 
-// Of the directions u and v and the gap w.
-pub(crate) fn products_of(u: [f32; 3], v: [f32; 3], w: [f32; 3]) -> Products
-    ensures { λ r. ⌜ r ≡ Def.productsOf u v w ⌝ }
+// Of the directions from u0 to u1 and from v0 to v1 and the gap from w0 to w1.
+pub(crate) fn products_of(
+    u0: [f32; 3],
+    u1: [f32; 3],
+    v0: [f32; 3],
+    v1: [f32; 3],
+    w0: [f32; 3],
+    w1: [f32; 3],
+) -> Products
+    ensures { λ r. ⌜ r ≡ Def.productsOf (minus u1 u0) (minus v1 v0) (minus w1 w0) ⌝ }
 {
+    let u = vec3::sub(u1, u0);
+    let v = vec3::sub(v1, v0);
+    let w = vec3::sub(w1, w0);
     let a = vec3::dot(u, u);
     let b = vec3::dot(u, v);
     let c = vec3::dot(v, v);

@@ -13,7 +13,7 @@ use Rattle.number.proofs.Within as W
 use Rattle.number.proofs.Ranges.{bits-within}
 use Rattle.geometry.specs.Vec3.{at, col, vec, minus, dot, along}
 use Rattle.geometry.specs.Edge3.{lerpOf}
-use Rattle.geometry.specs.Columns.{columns, moved, quarter, mean, centre, centred, times, scaled}
+use Rattle.geometry.specs.Columns.{columns, moved, quarter, centre, centred, times, scaled}
 
 -- each of the three numbers; each number of each of the four columns
 abbrev pub VecWithin : ℕ → List Float → Type 0
@@ -22,7 +22,7 @@ VecWithin a v = (j : ℕ) → j < 3 → Within a (at v j)
 abbrev pub PointsWithin : ℕ → List (List Float) → Type 0
 PointsWithin a x = (i j : ℕ) → i < 4 → j < 3 → Within a (at (col x i) j)
 
-pub vec-within : (a : ℕ) (p q r : Float) → Within a p → Within a q → Within a r → VecWithin a (vec p q r)
+vec-within : (a : ℕ) (p q r : Float) → Within a p → Within a q → Within a r → VecWithin a (vec p q r)
 vec-within a p q r hp hq hr zero l = hp
 vec-within a p q r hp hq hr (suc zero) l = hq
 vec-within a p q r hp hq hr (suc (suc zero)) l = hr
@@ -116,9 +116,10 @@ centred-within a x l h =
     columns-within (suc (suc (suc (suc a)))) _ _ _ _
     (one 0 (lit< tt)) (one 1 (lit< tt)) (one 2 (lit< tt)) (one 3 (lit< tt))
   where
-    middle : (j : ℕ) → j < 3 → Within (suc (suc (suc a))) (mean x j)
+    middle : (j : ℕ) → j < 3
+        → Within (suc (suc (suc a))) (quarter (at (col x 0) j) (at (col x 1) j) (at (col x 2) j) (at (col x 3) j))
     middle j m =
-        quarter-within a (at (col x 0) j) (at (col x 1) j) (at (col x 2) j) (at (col x 3) j) (omega arith)
+        quarter-within a _ _ _ _ (omega arith)
         (h 0 j (lit< tt) m) (h 1 j (lit< tt) m) (h 2 j (lit< tt) m) (h 3 j (lit< tt) m)
 
     one : (i : ℕ) → i < 4 → VecWithin (suc (suc (suc (suc a)))) (minus (col x i) (centre x))

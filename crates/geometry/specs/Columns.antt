@@ -1,5 +1,4 @@
 -- Four points as a whole: moved, centred, scaled (docs/01-scope.md, "Four points as a whole"). Definitions only.
-use Prim.Native.Nat.{ℕ}
 use mathlib.Core.List.{List, [], _∷_}
 use lib.Ieee.{Float, binary32, ofBits}
 use Rattle.number.specs.Number.{_⊕_, _⊗_}
@@ -17,10 +16,6 @@ moved x dx t =
 -- a quarter of the sum of four
 abbrev pub quarter : Float → Float → Float → Float → Float
 quarter a b c d = (a ⊕ b ⊕ c ⊕ d) ⊗ ofBits binary32 0x3e80_0000
-
--- number i of the centre
-abbrev pub mean : List (List Float) → ℕ → Float
-mean x i = quarter (at (col x 0) i) (at (col x 1) i) (at (col x 2) i) (at (col x 3) i)
 
 abbrev pub centreOf : List Float → List Float → List Float → List Float → List Float
 centreOf a b c d =

@@ -1,5 +1,4 @@
 -- `distance::edge_edge::edges_meet` meets its contract. Assumes nothing.
-use borrow.Author.Needs.{needs}
 use Rattle.distance.specs.EdgeEdge.{edgesMeet}
 use Rattle.distance.proofs.edge_edge.edges_meet.Statement.{statement}
 use Rattle.distance.proofs.edge_edge.edges_meet.Tie as tie
@@ -15,11 +14,4 @@ returns c =
     )
 
 pub edges-meet-spec : {M : Type 1} → statement M
-edges-meet-spec =
-    tie.close
-    (tie.spec
-    (λ c κs. search needs)
-    (λ c κs. search needs)
-    (λ c κs. search needs)
-    (λ c κs. search needs)
-    returns)
+edges-meet-spec = tie.close (tie.spec (λ c κs. tt) (λ c κs. tt) (λ c κs. tt) (λ c κs. tt) returns)

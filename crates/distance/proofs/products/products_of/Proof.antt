@@ -1,5 +1,4 @@
 -- `distance::products::products_of` meets its contract. Assumes nothing.
-use borrow.Author.Needs.{needs}
 use Rattle.distance.specs.Products.{productsOf}
 use Rattle.distance.proofs.products.products_of.Statement.{statement}
 use Rattle.distance.proofs.products.products_of.Tie as tie
@@ -13,15 +12,13 @@ returns c =
       c .before .before .dot3 .ensures,
       c .before .before .before .dot2 .ensures,
       c .before .before .before .before .dot .ensures,
+      c .before .before .before .before .before .sub3 .ensures,
+      c .before .before .before .before .before .before .sub2 .ensures,
+      c .before .before .before .before .before .before .before .sub .ensures,
     )
 
 pub products-of-spec : {M : Type 1} → statement M
 products-of-spec =
     tie.close
-    (tie.spec
-    (λ c κs. search needs)
-    (λ c κs. search needs)
-    (λ c κs. search needs)
-    (λ c κs. search needs)
-    (λ c κs. search needs)
-    returns)
+    (tie.spec (λ c κs. tt) (λ c κs. tt) (λ c κs. tt) (λ c κs. tt) (λ c κs. tt) (λ c κs. tt) (λ c κs. tt)
+    (λ c κs. tt) returns)
