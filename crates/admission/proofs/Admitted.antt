@@ -18,7 +18,8 @@ use Rattle.geometry.specs.Vec3.{at, col}
 use Rattle.admission.specs.declared.Limits.{Limits}
 use Rattle.admission.specs.Admission.{refusal, ofThree, ofTwelve, finitePoints, limitPoints, isSplit, rangedLimits}
 use Rattle.admission.specs.Admission.{finiteLimits, finiteWalk, rangedWalk, walkRefusal}
-use Rattle.admission.specs.Admission.{pointsRefusal, splitRefusal, factorRefusal, timeRefusal, ratioRefusal}
+use Rattle.admission.specs.Admission.{pointsRefusal, splitRefusal, factorRefusal, motionRefusal, timeRefusal}
+use Rattle.admission.specs.Admission.{ratioRefusal}
 
 -- ---- the three numbers of a verdict
 pub refusal-none : (finite ranged : Bool) → refusal finite ranged ≡ 0 → T finite × T ranged
@@ -212,6 +213,16 @@ module _ (x : List (List Float)) where
   factor-admits s e =
       let r = refusal-none (finitePoints x && isFinite s) (limitPoints x && zeroToLimit s) e .1 in
       (and-l (limitPoints x) (zeroToLimit s) r, and-r (limitPoints x) (zeroToLimit s) r)
+
+  pub motion-admits : (dx : List (List Float)) → motionRefusal x dx ≡ 0 → T (limitPoints x) × T (limitPoints dx)
+  unfolding motionRefusal
+  motion-admits dx e =
+      let r = refusal-none (finitePoints x && finitePoints dx) (limitPoints x && limitPoints dx) e .1 in
+      (and-l (limitPoints x) (limitPoints dx) r, and-r (limitPoints x) (limitPoints dx) r)
+
+  pub motion-first : (dx : List (List Float)) → (motionRefusal x dx ≡ 1) ↔ T (not (finitePoints x && finitePoints dx))
+  unfolding motionRefusal
+  motion-first dx = refusal-first (finitePoints x && finitePoints dx) (limitPoints x && limitPoints dx)
 
   pub time-admits : (dx : List (List Float)) (t : Float) → timeRefusal x dx t ≡ 0
       → T (limitPoints x) × T (limitPoints dx) × T (zeroToOne t)

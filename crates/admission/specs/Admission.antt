@@ -13,10 +13,6 @@ use Rattle.admission.specs.declared.Limits.{Limits}
 abbrev pub refusal : Bool → Bool → ℕ
 refusal finite ranged = cond finite (cond ranged 0 2) 1
 
--- by a refusal number: what an admitted call gives, or what a refused one does
-abbrev pub admitted {ℓ} : {A : Type ℓ} → ℕ → A → A → A
-admitted n given other = cond (eqb n 0) given other
-
 -- a test passed by the three numbers of a point, by the twelve of four points
 abbrev pub ofThree : (Float → Bool) → List Float → Bool
 ofThree test v = test (at v 0) && test (at v 1) && test (at v 2)

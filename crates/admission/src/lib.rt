@@ -1,6 +1,6 @@
-// The one place that tests what callers hand over (docs/01-scope.md, "What callers hand over, and the numbers
-// allowed", "Refusal numbers"): 1, some number is NaN or infinite; 2, none is, but one lies beyond its range, or the
-// split is neither 2 nor 3; 0, admitted.
+// The tests of four points and of what callers hand over with them (docs/01-scope.md, "What callers hand over, and the
+// numbers allowed", "Refusal numbers"): 1, some number is NaN or infinite; 2, none is, but one lies beyond its range, or
+// the split is neither 2 nor 3; 0, admitted.
 ghost use mathlib.Core.Path.{_≡_};
 ghost use Rattle.number.specs.Range.{isFinite, inLimit};
 ghost use Rattle.admission.specs.Admission as Def;
@@ -16,7 +16,7 @@ pub struct Limits {
 }
 
 // 1 before 2 before 0.
-pub fn verdict(finite: bool, ranged: bool) -> u32
+fn verdict(finite: bool, ranged: bool) -> u32
     ensures { λ r. ⌜ r ≡ Def.refusal finite ranged ⌝ }
 {
     if finite {
@@ -27,7 +27,7 @@ pub fn verdict(finite: bool, ranged: bool) -> u32
 }
 
 // Two points against two, or three against one.
-pub fn is_split(split: usize) -> bool
+fn is_split(split: usize) -> bool
     ensures { λ r. ⌜ r ≡ Def.isSplit split ⌝ }
 {
     (split == 2) | (split == 3)
@@ -57,7 +57,7 @@ pub fn points_finite(x: [[f32; 3]; 4]) -> bool
 }
 
 // The twelve numbers of four points are 2^20 in size at most.
-pub fn points_in_limit(x: [[f32; 3]; 4]) -> bool
+fn points_in_limit(x: [[f32; 3]; 4]) -> bool
     ensures { λ r. ⌜ r ≡ Def.limitPoints x ⌝ }
 {
     let a = x[0];

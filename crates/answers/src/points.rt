@@ -1,7 +1,6 @@
 // Calls on points: `lerp`, `add_scaled`, `centerize`, `scale_in_place`, `squared_distance`, `max_relative_norm`.
 use crate::words;
 use pair::norm;
-use pair::norm::Normed;
 use pair::points;
 use pair::separation;
 
@@ -57,8 +56,6 @@ pub(crate) fn squared_distance(call: &[u8], out: &mut [u8]) {
 }
 
 pub(crate) fn max_relative_norm(call: &[u8], out: &mut [u8]) {
-    match norm::max_relative_norm(words::points(call, 4), words::split(call, 52)) {
-        Normed::Norm(x) => words::put_number(out, 4, x),
-        Normed::Refused(refusal) => words::put(out, 0, refusal),
-    }
+    let answer = norm::max_relative_norm(words::points(call, 4), words::split(call, 52));
+    words::put_answered(out, answer);
 }

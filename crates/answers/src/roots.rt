@@ -2,14 +2,10 @@
 use crate::words;
 use motion::coplanar;
 use number::root;
-use number::root::Rooted;
 use polynomial_root::answer::Roots;
 
 pub(crate) fn square_root(call: &[u8], out: &mut [u8]) {
-    match root::square_root(words::number(call, 4)) {
-        Rooted::Root(x) => words::put_number(out, 4, x),
-        Rooted::Refused(refusal) => words::put(out, 0, refusal),
-    }
+    words::put_answered(out, root::square_root(words::number(call, 4)));
 }
 
 fn put_roots(out: &mut [u8], answer: Roots) {

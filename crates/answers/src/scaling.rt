@@ -2,14 +2,6 @@
 use crate::words;
 use motion::record;
 use motion::scaling;
-use motion::scaling::Scaling;
-
-fn put_answer(out: &mut [u8], answer: Scaling) {
-    match answer {
-        Scaling::Factor(x) => words::put_number(out, 4, x),
-        Scaling::Refused(refusal) => words::put(out, 0, refusal),
-    }
-}
 
 pub(crate) fn normalize(call: &[u8], out: &mut [u8]) {
     let scaled = scaling::after_scaling(
@@ -17,7 +9,7 @@ pub(crate) fn normalize(call: &[u8], out: &mut [u8]) {
         words::number(call, 100),
     );
     let answer = scaled.answer;
-    put_answer(out, answer);
+    words::put_answered(out, answer);
     let left = scaled.pair;
     words::put_points(out, 8, record::x_of(left));
     words::put_points(out, 56, record::dx_of(left));

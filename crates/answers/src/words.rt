@@ -1,5 +1,6 @@
 // Words of four bytes, little-endian, in a lent run of bytes, and numbers by their bits. A word that lies outside the
 // run is read as 0, and is not written.
+use number::answer::Answered;
 
 fn wide(b: u8) -> u32 {
     b as u32
@@ -55,6 +56,14 @@ pub(crate) fn number(s: &[u8], at: usize) -> f32 {
 
 pub(crate) fn put_number(s: &mut [u8], at: usize, x: f32) {
     put(s, at, bits_of(x));
+}
+
+// One number or a refusal: the refusal at byte 0, the number at byte 4.
+pub(crate) fn put_answered(s: &mut [u8], answer: Answered) {
+    match answer {
+        Answered::Value(x) => put_number(s, 4, x),
+        Answered::Refused(refusal) => put(s, 0, refusal),
+    }
 }
 
 // The split at byte `at`.

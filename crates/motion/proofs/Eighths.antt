@@ -4,12 +4,11 @@ use Prim.Native.Nat.{ℕ, zero, suc, _+_, _-_, _*_, _^_, _≤_, _<_}
 use native.Mathlib.Nat.{le-of-lt, eq-or-lt-of-le}
 use native.Mathlib.Omega.{arith}
 use native.Mathlib.Numerals.{add-one}
-use mathlib.Core.Path.{_≡_, refl, sym, ap, _∙_, subst}
+use mathlib.Core.Path.{_≡_, refl, subst}
 use mathlib.Core.Logic.{inl, inr}
 use mathlib.Core.Bool.{Bool, true, false, not}
 use lib.Dec.{T, ltb→lt, not-T}
-use lib.IntN.{pos}
-use lib.Ieee.{Float, nan, inf, fin, binary32, up, down, lt, fits, ofBits}
+use lib.Ieee.{Float, fin, binary32, up, down, lt, fits, ofBits}
 use lib.Ieee.Bits.{is-true, is-false}
 use Rattle.number.specs.Number.{_⊗_, _⊘_, one32}
 use Rattle.number.specs.Range.{isFinite}

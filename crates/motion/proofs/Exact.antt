@@ -9,9 +9,8 @@ use native.Mathlib.Decide.{decLe}
 use mathlib.Core.Path.{_≡_, refl, sym, ap, _∙_, subst}
 use mathlib.Core.Bool.{Bool, true, false, not}
 use lib.Dec.{T, lit<, lit≤}
-use lib.IntN.{pos}
 use lib.Pow.{pow-add, pow-pos, pow-mono, pow-lt, shl-lt}
-use lib.Ieee.{Float, nan, inf, fin, binary32, up, down, round, div, lt, fits, ofBits}
+use lib.Ieee.{Float, fin, binary32, up, down, round, div, lt, fits, ofBits}
 use lib.Ieee.Fits.{mul-fits, down-pos}
 use Rattle.number.specs.Number.{_⊗_, _⊘_, zero32, one32}
 use Rattle.number.specs.Range.{isFinite}
@@ -23,7 +22,7 @@ use Rattle.number.proofs.Products.{mul-is}
 use Rattle.number.proofs.Comparing.{lt-le}
 use Rattle.number.proofs.Finite.{is-finite}
 use Rattle.motion.specs.declared.factors.Factors.{Factors}
-use Rattle.motion.specs.Factors.{eight32, ending, eighths, factorsOf}
+use Rattle.motion.specs.Factors.{eight32, eighths, factorsOf}
 use Rattle.motion.proofs.Eighths.{eighths-turn, eighths-stop}
 
 -- a positive number of units has the sign plus

@@ -9,14 +9,14 @@ use mir.Val.{Val}
 use denote.Laws.{Is}
 use denote.Struct.Laws as LL
 use denote.Enum.Laws as EL
+use Rattle.number.specs.declared.answer.Answered.{Answered}
+use Rattle.number.proofs.answer.Answered as N
+use Rattle.number.proofs.answer.Answered.Laws as N′
 use Rattle.motion.specs.declared.record.Pair.{Pair}
-use Rattle.motion.specs.declared.scaling.Scaling.{Scaling}
 use Rattle.motion.specs.declared.scaling.Outcome.{Outcome}
 use Rattle.motion.specs.Scaling.{scalingRefusal, scalingOf, scaledPair, leaves, outcome}
 use Rattle.motion.proofs.record.Pair as T
 use Rattle.motion.proofs.record.Pair.Laws as T′
-use Rattle.motion.proofs.scaling.Scaling as N
-use Rattle.motion.proofs.scaling.Scaling.Laws as N′
 use Rattle.motion.proofs.scaling.Outcome as O
 use Rattle.motion.proofs.scaling.Outcome.Laws as O′
 
@@ -24,7 +24,7 @@ use Rattle.motion.proofs.scaling.Outcome.Laws as O′
 abbrev pub pairVal : Pair → Val
 pairVal = LL.val T.the-type T′.the-laws
 
-abbrev pub answerVal : Scaling → Val
+abbrev pub answerVal : Answered → Val
 answerVal = EL.val N.the-type N′.the-laws
 
 abbrev pub outcomeVal : Outcome → Val
@@ -34,7 +34,7 @@ outcomeVal = LL.val O.the-type O′.the-laws
 abbrev pub IsPair : Pair → Type 0
 IsPair p = Is T.the-row p (pairVal p ∷ [])
 
-abbrev pub IsAnswer : Scaling → Type 0
+abbrev pub IsAnswer : Answered → Type 0
 IsAnswer a = Is N.the-row a (answerVal a ∷ [])
 
 module _ (r : Outcome) (vs : List Val) (is : Is O.the-row r vs) where

@@ -2,6 +2,8 @@
 pub mod Eighths
 pub mod Exact
 pub mod Scalings
+mod Refusals
+pub mod Coefficients
 mod Into
 mod Outcomes
 mod Lent

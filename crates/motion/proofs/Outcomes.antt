@@ -2,27 +2,28 @@
 -- which test it is refused and by which number, and when it is taken. Assumes nothing.
 use Prim.Native.Nat.{ℕ}
 use native.Mathlib.Omega.{arith}
-use mathlib.Core.Path.{_≡_, refl, sym, ap, _∙_}
+use mathlib.Core.Path.{_≡_}
 use mathlib.Core.Bool.{Bool, true, false}
 use lib.Ieee.{Float}
 use borrow.Author.Tests.{eq-eqb, ne-eqb}
+use Rattle.number.specs.declared.answer.Answered.the-variants.{Value}
+use Rattle.number.specs.Answer.{answered}
 use Rattle.motion.specs.declared.record.Pair.{Pair}
 use Rattle.motion.specs.declared.factors.Factors.{Factors}
 use Rattle.motion.specs.declared.scaling.Outcome.{Outcome}
-use Rattle.motion.specs.declared.scaling.Scaling.the-variants.{Factor, Refused}
 use Rattle.motion.specs.Factors.{usable, factorsOf}
 use Rattle.motion.specs.Scaling.{firstFactor, factorsFor, scaledWith, scaledPair, finitePair}
-use Rattle.motion.specs.Scaling.{pairRefusal, scalingRefusal, scalingOf, leaves, refusedBy, outcome}
+use Rattle.motion.specs.Scaling.{pairRefusal, scalingRefusal, leaves, refusedBy, outcome}
 
 module _ (p : Pair) (t : Float) where
   refused-by : (n : ℕ) → scalingRefusal p t ≡ n → (n ≡ 0 → ⊥) → refusedBy p n ≡ outcome p t
-  unfolding outcome scalingOf leaves
+  unfolding outcome answered leaves
   refused-by n e z = rw (e, ne-eqb n 0 z)
 
   taken : scalingRefusal p t ≡ 0
-      → _≡_ {A = Outcome} (record { taken = true; answer = Factor (factorsFor p t .product); pair = scaledPair p t })
+      → _≡_ {A = Outcome} (record { taken = true; answer = Value (factorsFor p t .product); pair = scaledPair p t })
       (outcome p t)
-  unfolding outcome scalingOf leaves
+  unfolding outcome answered leaves
   taken e = rw e
 
   module _ (n : ℕ) (en : n ≡ pairRefusal p t) where
@@ -45,7 +46,7 @@ module _ (p : Pair) (t : Float) where
               refused-by 5 (rw (← en, eq-eqb n 0 z, ← ef, ← eu, w, ← eb, ← eq, ← ok, h)) (λ e. omega arith)
 
           pub by-none : b ≡ true
-              → _≡_ {A = Outcome} (record { taken = true; answer = Factor (by .product); pair = q }) (outcome p t)
+              → _≡_ {A = Outcome} (record { taken = true; answer = Value (by .product); pair = q }) (outcome p t)
           unfolding scalingRefusal
           by-none h =
               let none : scalingRefusal p t ≡ 0 = rw (← en, eq-eqb n 0 z, ← ef, ← eu, w, ← eb, ← eq, ← ok, h) in

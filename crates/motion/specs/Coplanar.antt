@@ -4,6 +4,7 @@ use Prim.Native.Nat.{ℕ}
 use mathlib.Core.List.{List}
 use lib.Ieee.{Float}
 use Rattle.number.specs.Number.{_⊕_, zero32, one32}
+use Rattle.number.specs.Answer.{admitted}
 use Rattle.geometry.specs.Vec3.{col, minus, triple}
 use Rattle.polynomial_root.specs.declared.answer.Roots.{Roots}
 use Rattle.polynomial_root.specs.declared.cubic.Cubic.{Cubic}
@@ -11,7 +12,6 @@ use Rattle.polynomial_root.specs.Newton.{cubicOf}
 use Rattle.polynomial_root.specs.Roots.{refused}
 use Rattle.polynomial_root.specs.Called.{cubicRootsInRange}
 use Rattle.admission.specs.Admission.{motionRefusal}
-use Rattle.admission.specs.Admission.{admitted}
 
 -- the volume spanned by three edges x1, x2, x3 that move by v1, v2, v3, as a cubic of the time
 unfoldable pub volume : List Float → List Float → List Float → List Float → List Float → List Float → Cubic

@@ -1,27 +1,19 @@
 -- Scaling a pair (docs/01-scope.md, "Scaling a pair", "Refusal numbers"; ccd3.rs:
 -- `normalize_centerized_configuration`). Definitions only.
 use Prim.Native.Nat.{ℕ}
+use mathlib.Core.Path.{_≡_}
 use mathlib.Core.Bool.{Bool, false, cond, _&&_}
-use lib.Dec.{eqb}
+use lib.Dec.{T, eqb}
 use lib.Ieee.{Float, binary32, ofBits}
 use Rattle.number.specs.Number.{_⊘_, zero32}
+use Rattle.number.specs.declared.answer.Answered.{Answered}
+use Rattle.number.specs.declared.answer.Answered.the-variants.{Refused}
+use Rattle.number.specs.Answer.{refusalOf, valueOf, admitted, answered}
 use Rattle.motion.specs.declared.record.Pair.{Pair}
 use Rattle.motion.specs.declared.factors.Factors.{Factors}
 use Rattle.motion.specs.declared.scaling.Outcome.{Outcome}
-use Rattle.motion.specs.declared.scaling.Scaling.{Scaling}
-use Rattle.motion.specs.declared.scaling.Scaling.the-variants.{Factor, Refused}
 use Rattle.admission.specs.Admission.{finitePoints, timeRefusal}
-use Rattle.admission.specs.Admission.{admitted}
 use Rattle.motion.specs.Factors.{maxEntry, usable, factorsOf, scaledBy}
-
--- an answer's refusal number, 0 for none, and its factor, zero where refused
-unfoldable pub refusalOf : Scaling → ℕ
-refusalOf (Factor f) = 0
-refusalOf (Refused n) = n
-
-unfoldable pub factorOf : Scaling → Float
-factorOf (Factor f) = f
-factorOf (Refused n) = zero32
 
 -- f = f32(0.99) / max_entry
 unfoldable pub firstFactor : Pair → Float → Float
@@ -49,12 +41,21 @@ scalingRefusal p t =
     (cond (usable (firstFactor p t)) (cond (finitePair (scaledPair p t)) 0 5) 4)
     (pairRefusal p t)
 
--- what is answered, and what the lent pair holds afterwards
-unfoldable pub scalingOf : Pair → Float → Scaling
-scalingOf p t = admitted (scalingRefusal p t) (Factor (factorsFor p t .product)) (Refused (scalingRefusal p t))
+-- what is answered: the product of the factors, or the refusal; and what the lent pair holds afterwards
+abbrev pub scalingOf : Pair → Float → Answered
+scalingOf p t = answered (scalingRefusal p t) (factorsFor p t .product)
 
 unfoldable pub leaves : Pair → Float → Pair
 leaves p t = admitted (scalingRefusal p t) (scaledPair p t) p
+
+-- a scaling of p that answers a and leaves the pair q; the number and the value of the answer; and that a scaled pair
+-- is finite
+pub record Scales (p : Pair) (t : Float) (a : Answered) (q : Pair) : Type 0 where
+  pub answer : a ≡ scalingOf p t
+  pub left : q ≡ leaves p t
+  pub refusal : refusalOf a ≡ scalingRefusal p t
+  pub value : valueOf a ≡ admitted (scalingRefusal p t) (factorsFor p t .product) zero32
+  pub finite : refusalOf a ≡ 0 → T (finitePair q)
 
 -- a refused pair stays as it was
 abbrev pub refusedBy : Pair → ℕ → Outcome

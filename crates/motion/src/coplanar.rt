@@ -1,8 +1,12 @@
 // The times at which the four points of a pair lie in one plane (ccd3.rs: `coplanar_time_mat3x4`; docs/01-scope.md,
 // "Roots").
 ghost use mathlib.Core.Path.{_≡_};
+ghost use mathlib.Core.Logic.{_↔_};
+ghost use mathlib.Core.Bool.{not, _&&_};
+ghost use lib.Dec.{T};
 ghost use Rattle.number.specs.Number.{one32};
 ghost use Rattle.polynomial_root.specs.Promises.{Tidy, InRange};
+ghost use Rattle.admission.specs.Admission.{finitePoints};
 ghost use Rattle.motion.specs.Coplanar as Def;
 use geometry::vec3::scalar_triple_product;
 use geometry::vec3::sub;
@@ -56,11 +60,13 @@ fn motion_cubic(x: [[f32; 3]; 4], dx: [[f32; 3]; 4]) -> Cubic
     )
 }
 
-// The times from 0 to 1, in the order of the cubic's spans. Refusals 1, 2, 6, 7, 8.
+// The times from 0 to 1, in the order of the cubic's spans. Refusals 1, 2, 6, 7, 8; by 1 where, and only where, a number
+// handed over is not finite: the coefficients computed from admitted points are.
 pub fn coplanar_time_mat3x4(x0: [[f32; 3]; 4], dx: [[f32; 3]; 4]) -> Roots
     ensures answer { λ r. ⌜ r ≡ Def.coplanarTimes x0 dx ⌝ }
     ensures tidy { λ r. ⌜ Tidy r ⌝ }
     ensures range { λ r. ⌜ InRange one32 r ⌝ }
+    ensures first { λ r. ⌜ (r .refusal ≡ 1) ↔ T (not (finitePoints x0 && finitePoints dx)) ⌝ }
 {
     let refusal = admission::admit_motion(x0, dx);
     if refusal == 0 {

@@ -9,7 +9,7 @@ use number::order;
 use number::range;
 
 // The factors of a scaling: how many times 8, the last one, and the product of all.
-pub struct Factors {
+pub(crate) struct Factors {
     pub eights: u32,
     pub last: f32,
     pub product: f32,

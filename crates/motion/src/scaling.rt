@@ -1,23 +1,17 @@
 // Scaling a pair (docs/01-scope.md, "Scaling a pair"; ccd3.rs: `normalize_centerized_configuration`): its numbers are
 // multiplied by 8 and at last by a factor of at most 8, so that the largest that the motion reaches is about 0.99.
 ghost use mathlib.Core.Path.{_≡_};
-ghost use lib.Dec.{T};
 ghost use Rattle.motion.specs.Scaling as Def;
 use crate::factors::Factors;
 use crate::factors::{self};
 use crate::record::Pair;
 use crate::record::{self};
-
-// What scaling answers: the product of the factors, or a refusal by 1, 2, 4 or 5.
-pub enum Scaling {
-    Factor(f32),
-    Refused(u32),
-}
+use number::answer::Answered;
 
 // What the core hands to the function over a lent pair: whether the pair is scaled, the answer, and the pair to store.
-pub struct Outcome {
+pub(crate) struct Outcome {
     pub taken: bool,
-    pub answer: Scaling,
+    pub answer: Answered,
     pub pair: Pair,
 }
 
@@ -58,7 +52,7 @@ fn finite_pair(p: Pair) -> bool
 fn refused(p: Pair, number: u32) -> Outcome
     ensures { λ r. ⌜ r ≡ Def.refusedBy p number ⌝ }
 {
-    let answer = Scaling::Refused(number);
+    let answer = Answered::Refused(number);
     Outcome {
         taken: false,
         answer: answer,
@@ -67,7 +61,7 @@ fn refused(p: Pair, number: u32) -> Outcome
 }
 
 // Scaling by value: what is answered, and what the pair becomes.
-pub fn scaled_pair(p: Pair, max_t: f32) -> Outcome
+fn scaled_pair(p: Pair, max_t: f32) -> Outcome
     ensures { λ r. ⌜ r ≡ Def.outcome p «max_t» ⌝ }
 {
     let refusal = admit_pair(p, max_t);
@@ -83,7 +77,7 @@ pub fn scaled_pair(p: Pair, max_t: f32) -> Outcome
     if !finite_pair(scaled) {
         return refused(p, 5);
     }
-    let answer = Scaling::Factor(by.product);
+    let answer = Answered::Value(by.product);
     Outcome {
         taken: true,
         answer: answer,
@@ -91,11 +85,10 @@ pub fn scaled_pair(p: Pair, max_t: f32) -> Outcome
     }
 }
 
-// Scales the lent pair and answers the product of the factors; a refused pair stays as it was, bit for bit.
-pub fn normalize_centerized_configuration(pair: &mut Pair, max_t: f32) -> Scaling
-    ensures { λ r. ⌜ (r ≡ Def.scalingOf (now (pair .entry)) «max_t»)
-        × (now (pair .exit) ≡ Def.leaves (now (pair .entry)) «max_t»)
-        × (Def.refusalOf r ≡ 0 → T (Def.finitePair (now (pair .exit)))) ⌝ }
+// Scales the lent pair and answers the product of the factors, or a refusal by 1, 2, 4 or 5; a refused pair stays as it
+// was, bit for bit.
+pub fn normalize_centerized_configuration(pair: &mut Pair, max_t: f32) -> Answered
+    ensures { λ r. ⌜ Def.Scales (now (pair .entry)) «max_t» r (now (pair .exit)) ⌝ }
 {
     let p = *pair;
     let out = scaled_pair(p, max_t);
@@ -107,13 +100,13 @@ pub fn normalize_centerized_configuration(pair: &mut Pair, max_t: f32) -> Scalin
 
 // A scaling's answer, and the pair that it left.
 pub struct Scaled {
-    pub answer: Scaling,
+    pub answer: Answered,
     pub pair: Pair,
 }
 
 // For a caller that holds a pair by value: the pair is lent, and what lies there afterwards is handed back.
 pub fn after_scaling(p: Pair, max_t: f32) -> Scaled
-    ensures { λ r. ⌜ (r .answer ≡ Def.scalingOf p «max_t») × (r .pair ≡ Def.leaves p «max_t») ⌝ }
+    ensures { λ r. ⌜ Def.Scales p «max_t» (r .answer) (r .pair) ⌝ }
 {
     let mut q = p;
     let answer = normalize_centerized_configuration(&mut q, max_t);

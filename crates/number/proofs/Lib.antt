@@ -23,6 +23,7 @@ pub mod Finite
 pub mod Ranges
 pub mod Transitive
 pub mod NextUp
+pub mod Answers
 pub mod SquareRoot
 pub mod Corners
 pub mod Zeros

@@ -10,10 +10,10 @@ use native.Mathlib.Nat.{add-mul, one-mul, pow-succ'}
 use native.Mathlib.Numerals.{add-one}
 use native.Mathlib.Omega.{arith}
 use native.Mathlib.Decide.{le-ind}
-use lib.Dec.{T, leb, ltb, eqb, leb→le, ltb→lt, nltb→le, eqb→eq, not-T}
+use lib.Dec.{T, leb, ltb, eqb, leb→le, ltb→lt, eqb→eq, not-T}
 use lib.Pow.{pow-pos}
-use lib.Ieee.{Float, nan, inf, binary32, odd, fits, isNan, ofFields, ofBits, toBits, nanBits}
-use lib.Ieee.Bits.{is-false, cond-no, ofBits-toBits, toBits-ofBits, nanBits-is, nanBits-above}
+use lib.Ieee.{Float, nan, inf, binary32, odd, ofFields, ofBits, toBits, nanBits}
+use lib.Ieee.Bits.{is-false, cond-no, toBits-ofBits, nanBits-is, nanBits-above}
 use lib.Ieee.Exact.{HasValue, odd-sign}
 use Rattle.number.proofs.Numbers.{le-of-not-lt}
 use Rattle.number.proofs.Units.{L, Is}
@@ -165,13 +165,6 @@ no-nan-bits b h =
     let t = ltb 2139095040 (b % 2147483648) in
     subst (λ (t : Bool). T (not t)) (sym (nanBits-above binary32 b))
     (not-T t (λ (u : T t). lt-irrefl 2139095040 (lt-of-lt-of-le (ltb→lt 2139095040 (b % 2147483648) u) h)))
-
-pub bits-no-nan : (x : Float) → T (fits binary32 x) → T (not (isNan x)) → toBits binary32 x % 2147483648 ≤ 2139095040
-bits-no-nan x f h =
-    let b = toBits binary32 x in
-    let e : isNan x ≡ ltb 2139095040 (b % 2147483648) =
-    ap isNan (sym (ofBits-toBits binary32 x f)) ∙ sym (nanBits-is binary32 b) ∙ nanBits-above binary32 b in
-    nltb→le 2139095040 (b % 2147483648) (subst (λ (t : Bool). T (not t)) e h)
 
 -- a pattern below plus infinity's is that of its own value
 pub bits-back : (b : ℕ) → b < 2139095040 → toBits binary32 (ofBits binary32 b) ≡ b

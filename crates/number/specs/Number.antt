@@ -49,7 +49,7 @@ larger a b = cond (lt a b) b a
 unfoldable pub clamp : Float → Float → Float → Float
 clamp x low high = cond (lt x low) low (cond (lt high x) high x)
 
--- the least f32 above x; the largest infinity and NaN have none and stand for themselves
+-- the least f32 above x; plus infinity and NaN have none and stand for themselves
 unfoldable pub nextUp : Float → Float
 nextUp nan = nan
 nextUp (inf true) = ofBits binary32 0xff7f_ffff

@@ -6,8 +6,6 @@ use lib.Dec.{ltb, eqb}
 use lib.Ieee.{Float, nan, inf, fin, binary32, up, down, lt, ofBits}
 use Rattle.number.specs.Number.{zero32}
 use Rattle.number.specs.Range.{isFinite}
-use Rattle.number.specs.declared.root.Rooted.{Rooted}
-use Rattle.number.specs.declared.root.Rooted.the-variants.{Root, Refused}
 
 -- the size of a finite number, counted in the smallest f32 above zero, 2 ^ -149
 unfoldable pub count : Float → ℕ
@@ -47,15 +45,3 @@ rootOf x = cond (lt zero32 x && isFinite x) (ofBits binary32 (last (reaches x) 3
 -- the refusal number of an argument, 0 for none: 1 for NaN or an infinity, else 2 below zero
 unfoldable pub rootRefusal : Float → ℕ
 rootRefusal x = cond (isFinite x) (cond (lt x zero32) 2 0) 1
-
--- what the square root answers; an answer's refusal number, 0 for none; its root, plus zero where refused
-unfoldable pub squareRoot : Float → Rooted
-squareRoot x = cond (isFinite x) (cond (lt x zero32) (Refused 2) (Root (rootOf x))) (Refused 1)
-
-unfoldable pub refusalOf : Rooted → ℕ
-refusalOf (Root r) = 0
-refusalOf (Refused n) = n
-
-unfoldable pub valueOf : Rooted → Float
-valueOf (Root r) = r
-valueOf (Refused n) = zero32

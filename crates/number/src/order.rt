@@ -1,4 +1,4 @@
-// Absolute value, smaller, larger, clamp, next f32 up (docs/01-scope.md, "Number helpers").
+// Absolute value, smaller, larger, clamp (docs/01-scope.md, "Number helpers").
 ghost use mathlib.Core.Path.{_≡_};
 ghost use Rattle.number.specs.Number as Def;
 
@@ -33,26 +33,5 @@ pub fn clamp(x: f32, low: f32, high: f32) -> f32
         high
     } else {
         x
-    }
-}
-
-// The least f32 above x. NaN and plus infinity have none and are answered themselves.
-pub fn next_up(x: f32) -> f32
-    ensures { λ r. ⌜ r ≡ Def.nextUp x ⌝ }
-{
-    if x != x {
-        return x;
-    }
-    let b = f32::to_bits(x);
-    if b == 0x7f80_0000 {
-        return x;
-    }
-    if x == 0.0 {
-        return f32::from_bits(1);
-    }
-    if b < 0x8000_0000 {
-        f32::from_bits(b + 1)
-    } else {
-        f32::from_bits(b - 1)
     }
 }

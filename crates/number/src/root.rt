@@ -1,14 +1,11 @@
 // The correctly rounded square root (docs/01-scope.md, "Square root and norm").
 ghost use mathlib.Core.Path.{_≡_};
 ghost use Prim.Native.Nat.{_+_, _*_, _^_, _≤_, _<_};
+ghost use Rattle.number.specs.Answer.{refusalOf, valueOf, answered};
 ghost use Rattle.number.specs.Root as Def;
 ghost use Rattle.number.specs.RootDigits.{RootBits};
+use crate::answer::Answered;
 use crate::range;
-
-pub enum Rooted {
-    Root(f32),
-    Refused(u32),
-}
 
 // The whole root of a number, and what is left.
 struct Whole {
@@ -106,18 +103,18 @@ pub fn root(x: f32) -> f32
 }
 
 // The square root with its refusals: 1 for NaN or an infinity, 2 below zero.
-pub fn square_root(x: f32) -> Rooted
-    ensures answer { λ r. ⌜ r ≡ Def.squareRoot x ⌝ }
-    ensures refusal { λ r. ⌜ Def.refusalOf r ≡ Def.rootRefusal x ⌝ }
-    ensures value { λ r. ⌜ Def.valueOf r ≡ Def.rootOf x ⌝ }
+pub fn square_root(x: f32) -> Answered
+    ensures answer { λ r. ⌜ r ≡ answered (Def.rootRefusal x) (Def.rootOf x) ⌝ }
+    ensures refusal { λ r. ⌜ refusalOf r ≡ Def.rootRefusal x ⌝ }
+    ensures value { λ r. ⌜ valueOf r ≡ Def.rootOf x ⌝ }
 {
     if range::is_finite(x) {
         if x < 0.0 {
-            Rooted::Refused(2)
+            Answered::Refused(2)
         } else {
-            Rooted::Root(root(x))
+            Answered::Value(root(x))
         }
     } else {
-        Rooted::Refused(1)
+        Answered::Refused(1)
     }
 }

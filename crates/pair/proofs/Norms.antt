@@ -1,31 +1,30 @@
 -- The norm of any four points has the sign plus, so it is not below zero; of points within the limit it is at most
 -- 2 ^ 22. Assumes nothing.
-use Prim.Native.Nat.{ℕ, suc, _+_, _-_, _*_, _^_, _≤_, _<_}
+use Prim.Native.Nat.{ℕ, _+_, _-_, _≤_, _<_}
 use native.Mathlib.Omega.{arith}
-use mathlib.Core.Path.{_≡_, refl, sym, ap, _∙_, subst}
+use mathlib.Core.Path.{_≡_, refl, sym, ap, subst}
 use mathlib.Core.Bool.{Bool, true, false, cond, _&&_}
-use mathlib.Core.List.{List, foldl}
-use lib.Dec.{T, eqb, lit≤, lit<}
+use mathlib.Core.List.{List}
+use lib.Dec.{T, lit≤, lit<}
 use lib.Ieee.{Float, binary32, lt, le, fits, ofBits}
 use lib.Ieee.Bits.{ofBits-fits}
 use lib.Ieee.Fits.{add-fits, and-l, and-r}
-use borrow.Author.Tests.{eqb-true}
 use Rattle.number.specs.Number.{_⊖_, zero32, larger}
 use Rattle.number.specs.Range.{isFinite}
+use Rattle.number.specs.declared.answer.Answered.{Answered}
+use Rattle.number.specs.Answer.{refusalOf, valueOf, admitted, answered}
 use Rattle.number.specs.Root.{reaches, last, rootOf}
 use Rattle.number.proofs.Units.{plus}
 use Rattle.number.proofs.Within.{Within, sub-within, dot-within}
 use Rattle.number.proofs.Signs.{plus-up}
 use Rattle.number.proofs.Choice.{larger-keeps}
+use Rattle.number.proofs.Answers.{admitted-keeps, clauses}
 use Rattle.number.proofs.SquareRoot.Theorem.{root-from}
 use Rattle.number.proofs.SquareRoot.Bounds.{root-within}
-use Rattle.geometry.specs.Vec3.{at, col, minus}
-use Rattle.pair.specs.declared.norm.Normed.{Normed}
-use Rattle.pair.specs.declared.norm.Normed.the-variants.{Norm, Refused}
+use Rattle.geometry.specs.Vec3.{at, col}
 use Rattle.pair.specs.Count.{count}
 use Rattle.admission.specs.Admission.{limitPoints, splitRefusal}
-use Rattle.admission.specs.Admission.{admitted}
-use Rattle.pair.specs.Norm.{gapSquare, against, largestSquare, normOf, normed, refusalOf, valueOf}
+use Rattle.pair.specs.Norm.{gapSquare, against, largestSquare, normOf}
 use Rattle.admission.proofs.Admitted.{within-real, points-within, split-admits}
 use Rattle.pair.proofs.Counting.{fold-keeps}
 
@@ -69,24 +68,6 @@ norm-plus x split = root-plus (largestSquare x split) (square-fits x split)
 pub norm-up : (x : List (List Float)) (split : ℕ) → T (le zero32 (normOf x split))
 norm-up x split = plus-up (normOf x split) (norm-plus x split)
 
--- an answer's number and its norm, by the number that it was made with
-number : (n : ℕ) (r : Float) → refusalOf (admitted n (Norm r) (Refused n)) ≡ n
-unfolding refusalOf
-number n r = go (eqb n 0) refl
-  where
-    go : (b : Bool) → eqb n 0 ≡ b → refusalOf (cond b (Norm r) (Refused n)) ≡ n
-    go true h = sym (eqb-true n 0 h)
-    go false h = refl
-
-value : (n : ℕ) (r : Float) → (n ≡ 0 → T (isFinite r)) → T (le zero32 r)
-    → let v = valueOf (admitted n (Norm r) (Refused n)) in T (isFinite v) × T (le zero32 v)
-unfolding valueOf isFinite ofBits
-value n r f g = go (eqb n 0) refl
-  where
-    go : (b : Bool) → eqb n 0 ≡ b → let v = valueOf (cond b (Norm r) (Refused n)) in T (isFinite v) × T (le zero32 v)
-    go true h = (f (eqb-true n 0 h), g)
-    go false h = (tt, plus-up zero32 tt)
-
 module _ (x : List (List Float)) (h : T (limitPoints x)) where
   gap-within : (i j : ℕ) → i < 4 → j < 4 → Within 44 (gapSquare x i j)
   unfolding gapSquare
@@ -109,26 +90,25 @@ module _ (x : List (List Float)) (h : T (limitPoints x)) where
   unfolding normOf
   norm-within split = root-within 22 (largestSquare x split) (lit≤ tt) (square-fits x split) (square-within split)
 
--- ---- the public answer: its number is the refusal; its norm, zero where refused, is finite and not below zero
-module _ (x : List (List Float)) (split : ℕ) where
-  pub normed-number : refusalOf (normed x split) ≡ splitRefusal x split
-  unfolding normed
-  normed-number = number (splitRefusal x split) (normOf x split)
+-- ---- the public answer: its norm, zero where refused, is finite and not below zero
+abbrev Real : Float → Type 0
+Real v = T (isFinite v) × T (le zero32 v)
 
-  pub normed-real : T (isFinite (valueOf (normed x split))) × T (le zero32 (valueOf (normed x split)))
-  unfolding normed
-  normed-real =
-      value (splitRefusal x split) (normOf x split)
-      (λ e. within-real 22 (normOf x split) (norm-within x (split-admits x split e .0) split)) (norm-up x split)
+zero-real : Real zero32
+unfolding isFinite ofBits
+zero-real = (tt, plus-up zero32 tt)
+
+module _ (x : List (List Float)) (split : ℕ) where
+  answer-real : Real (admitted (splitRefusal x split) (normOf x split) zero32)
+  answer-real =
+      admitted-keeps Real (splitRefusal x split) (normOf x split) zero32
+      (λ e. (within-real 22 (normOf x split) (norm-within x (split-admits x split e .0) split), norm-up x split))
+      zero-real
 
   -- the clauses of the public call
-  pub with-number : (r : Normed) → r ≡ normed x split
-      → (r ≡ normed x split) × ((refusalOf r ≡ splitRefusal x split)
-      × (T (isFinite (valueOf r)) × T (le zero32 (valueOf r))))
-  with-number r e = (
-    e,
-    (
-      ap refusalOf e ∙ normed-number,
-      subst (λ (r : Normed). T (isFinite (valueOf r)) × T (le zero32 (valueOf r))) (sym e) normed-real,
-    ),
-  )
+  pub norm-clauses : (r : Answered) → r ≡ answered (splitRefusal x split) (normOf x split)
+      → (r ≡ answered (splitRefusal x split) (normOf x split)) × ((refusalOf r ≡ splitRefusal x split)
+      × ((valueOf r ≡ admitted (splitRefusal x split) (normOf x split) zero32) × Real (valueOf r)))
+  norm-clauses r e =
+      let all = clauses (splitRefusal x split) (normOf x split) r e in
+      (e, (all .1 .0, (all .1 .1, subst Real (sym (all .1 .1)) answer-real)))

@@ -6,11 +6,7 @@ use lib.Ieee.{Float}
 use Rattle.number.specs.Number.{zero32, larger}
 use Rattle.number.specs.Root.{rootOf}
 use Rattle.geometry.specs.Vec3.{col, minus, dot}
-use Rattle.pair.specs.declared.norm.Normed.{Normed}
-use Rattle.pair.specs.declared.norm.Normed.the-variants.{Norm, Refused}
 use Rattle.pair.specs.Count.{count}
-use Rattle.admission.specs.Admission.{splitRefusal}
-use Rattle.admission.specs.Admission.{admitted}
 
 -- the squared difference of columns i and j
 unfoldable pub gapSquare : List (List Float) → ℕ → ℕ → Float
@@ -27,15 +23,3 @@ largestSquare x split = foldl (against x (count split (4 - split))) zero32 (coun
 -- its root
 unfoldable pub normOf : List (List Float) → ℕ → Float
 normOf x split = rootOf (largestSquare x split)
-
--- what the public call answers; its refusal number, 0 for none; its norm, zero where refused
-unfoldable pub normed : List (List Float) → ℕ → Normed
-normed x split = admitted (splitRefusal x split) (Norm (normOf x split)) (Refused (splitRefusal x split))
-
-unfoldable pub refusalOf : Normed → ℕ
-refusalOf (Norm r) = 0
-refusalOf (Refused n) = n
-
-unfoldable pub valueOf : Normed → Float
-valueOf (Norm r) = r
-valueOf (Refused n) = zero32

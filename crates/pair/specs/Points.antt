@@ -7,7 +7,8 @@ use Rattle.geometry.specs.Vec3.{vec}
 use Rattle.geometry.specs.Edge3.{lerpOf}
 use Rattle.geometry.specs.Columns.{moved, centred, scaled}
 use Rattle.pair.specs.declared.points.Placed.{Placed}
-use Rattle.admission.specs.Admission.{admitted, pointsRefusal, factorRefusal, timeRefusal, ratioRefusal}
+use Rattle.number.specs.Answer.{admitted}
+use Rattle.admission.specs.Admission.{pointsRefusal, factorRefusal, timeRefusal, ratioRefusal}
 
 -- the place along a segment; a refused one carries zeros
 unfoldable pub placed : List Float → List Float → Float → Placed

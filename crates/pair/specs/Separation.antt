@@ -7,8 +7,8 @@ use Rattle.number.specs.Number.{zero32}
 use Rattle.geometry.specs.Vec3.{vec}
 use Rattle.distance.specs.Nearest.{nearestOf}
 use Rattle.pair.specs.declared.separation.Measured.{Measured}
+use Rattle.number.specs.Answer.{admitted}
 use Rattle.admission.specs.Admission.{splitRefusal}
-use Rattle.admission.specs.Admission.{admitted}
 
 -- the first smallest candidate's numbers
 abbrev pub foundAt : List (List Float) → ℕ → Measured

@@ -5,17 +5,13 @@ ghost use lib.Dec.{T};
 ghost use lib.Ieee.{le};
 ghost use Rattle.number.specs.Number.{zero32};
 ghost use Rattle.number.specs.Range.{isFinite};
+ghost use Rattle.number.specs.Answer.{refusalOf, valueOf, admitted, answered};
 ghost use Rattle.admission.specs.Admission.{splitRefusal};
 ghost use Rattle.pair.specs.Norm as Def;
 use geometry::vec3;
+use number::answer::Answered;
 use number::order;
 use number::root;
-
-// What the norm's public call answers: the norm, or a refusal by 1 or 2.
-pub enum Normed {
-    Norm(f32),
-    Refused(u32),
-}
 
 // The largest squared difference of a column before the split and a column from it.
 fn largest_square(x: [[f32; 3]; 4], split: usize) -> f32
@@ -40,17 +36,17 @@ pub fn norm(x: [[f32; 3]; 4], split: usize) -> f32
     root::root(largest_square(x, split))
 }
 
-// The public call.
-pub fn max_relative_norm(x: [[f32; 3]; 4], split: usize) -> Normed
-    ensures answer { λ r. ⌜ r ≡ Def.normed x split ⌝ }
-    ensures refusal { λ r. ⌜ Def.refusalOf r ≡ splitRefusal x split ⌝ }
-    ensures norm { λ r. ⌜ T (isFinite (Def.valueOf r)) × T (le zero32 (Def.valueOf r)) ⌝ }
+// The public call: the norm, or a refusal by 1 or 2.
+pub fn max_relative_norm(x: [[f32; 3]; 4], split: usize) -> Answered
+    ensures answer { λ r. ⌜ r ≡ answered (splitRefusal x split) (Def.normOf x split) ⌝ }
+    ensures refusal { λ r. ⌜ refusalOf r ≡ splitRefusal x split ⌝ }
+    ensures value { λ r. ⌜ valueOf r ≡ admitted (splitRefusal x split) (Def.normOf x split) zero32 ⌝ }
+    ensures norm { λ r. ⌜ T (isFinite (valueOf r)) × T (le zero32 (valueOf r)) ⌝ }
 {
     let refusal = admission::admit_split(x, split);
     if refusal == 0 {
-        let r = norm(x, split);
-        Normed::Norm(r)
+        Answered::Value(norm(x, split))
     } else {
-        Normed::Refused(refusal)
+        Answered::Refused(refusal)
     }
 }

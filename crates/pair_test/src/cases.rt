@@ -3,19 +3,19 @@ use super::text;
 use admission::Limits;
 use motion::record;
 use motion::scaling;
-use motion::scaling::Scaling;
+use number::answer::Answered;
 use pair::norm;
-use pair::norm::Normed;
 use pair::points;
 use pair::separation;
 
-fn factor(answer: Scaling) {
+// A value by its name, or a refusal.
+fn answered(name: &[u8], answer: Answered) {
     match answer {
-        Scaling::Factor(f) => {
-            text::text(b" factor");
-            text::number(f);
+        Answered::Value(x) => {
+            text::text(name);
+            text::number(x);
         }
-        Scaling::Refused(n) => text::refusal(n),
+        Answered::Refused(n) => text::refusal(n),
     }
 }
 
@@ -24,27 +24,17 @@ pub(crate) fn scaled(name: &[u8], x: [[f32; 3]; 4], dx: [[f32; 3]; 4], max_t: f3
     text::text(name);
     let s = scaling::after_scaling(record::pair_of(x, dx), max_t);
     let answer = s.answer;
-    factor(answer);
+    answered(b" factor", answer);
     let p = s.pair;
     text::points(record::x_of(p));
     text::points(record::dx_of(p));
     text::end();
 }
 
-fn normed(answer: Normed) {
-    match answer {
-        Normed::Norm(r) => {
-            text::text(b" norm");
-            text::number(r);
-        }
-        Normed::Refused(n) => text::refusal(n),
-    }
-}
-
 // The norm and the distance of points by a split.
 pub(crate) fn measured(name: &[u8], x: [[f32; 3]; 4], split: usize) {
     text::text(name);
-    normed(norm::max_relative_norm(x, split));
+    answered(b" norm", norm::max_relative_norm(x, split));
     let d = separation::squared_distance(x, split);
     text::refusal(d.refusal);
     text::number(d.squared);

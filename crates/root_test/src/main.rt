@@ -4,8 +4,8 @@ ghost use Prim.Native.Nat.{_+_, _*_, _≤_};
 ghost use mathlib.Core.Path.{_≡_};
 ghost use lib.ListN.{length};
 ghost use Rattle.io.specs.Counts.{Counts};
+use number::answer::Answered;
 use number::root;
-use number::root::Rooted;
 
 struct Reply {
     kind: u8,
@@ -24,7 +24,7 @@ fn float(b: u32) -> f32 {
 fn answer(b: u32) -> Reply {
     let rooted = root::square_root(float(b));
     match rooted {
-        Rooted::Root(r) => {
+        Answered::Value(r) => {
             if r != r {
                 return Reply { kind: 2, value: 0 };
             }
@@ -33,7 +33,7 @@ fn answer(b: u32) -> Reply {
                 value: f32::to_bits(r),
             }
         }
-        Rooted::Refused(n) => Reply { kind: 1, value: n },
+        Answered::Refused(n) => Reply { kind: 1, value: n },
     }
 }
 

@@ -3,9 +3,7 @@
 ghost use mathlib.Core.Path.{_≡_};
 ghost use Rattle.urtemval.specs.Told as Def;
 use ccd3::Answer;
-use motion::scaling::Scaling;
-use number::root::Rooted;
-use pair::norm::Normed;
+use number::answer::Answered;
 
 // How a safe time ends: its kind is 0 touching, 1 contact, 2 clear, 3 budget, 4 refused.
 #[repr(C)]
@@ -49,47 +47,17 @@ pub(crate) fn safe_time(s: ccd3::SafeTime) -> SafeTime
     }
 }
 
-fn given(value: f32) -> Value
-    ensures { λ r. ⌜ r ≡ Def.given value ⌝ }
+pub(crate) fn told(a: Answered) -> Value
+    ensures { λ r. ⌜ r ≡ Def.told a ⌝ }
 {
-    Value {
-        refusal: 0,
-        value: value,
-    }
-}
-
-fn refused(refusal: u32) -> Value
-    ensures { λ r. ⌜ r ≡ Def.refused refusal ⌝ }
-{
-    Value {
-        refusal: refusal,
-        value: 0.0,
-    }
-}
-
-pub(crate) fn norm(n: Normed) -> Value
-    ensures { λ r. ⌜ r ≡ Def.norm n ⌝ }
-{
-    match n {
-        Normed::Norm(value) => given(value),
-        Normed::Refused(refusal) => refused(refusal),
-    }
-}
-
-pub(crate) fn scaling(s: Scaling) -> Value
-    ensures { λ r. ⌜ r ≡ Def.scaling s ⌝ }
-{
-    match s {
-        Scaling::Factor(value) => given(value),
-        Scaling::Refused(refusal) => refused(refusal),
-    }
-}
-
-pub(crate) fn square_root(x: Rooted) -> Value
-    ensures { λ r. ⌜ r ≡ Def.squareRoot x ⌝ }
-{
-    match x {
-        Rooted::Root(value) => given(value),
-        Rooted::Refused(refusal) => refused(refusal),
+    match a {
+        Answered::Value(value) => Value {
+            refusal: 0,
+            value: value,
+        },
+        Answered::Refused(refusal) => Value {
+            refusal: refusal,
+            value: 0.0,
+        },
     }
 }

@@ -2,8 +2,10 @@
 // sides, and scaling (`pair::separation::squared_distance`, `pair::norm::max_relative_norm`,
 // `motion::scaling::normalize_centerized_configuration`).
 ghost use mathlib.Core.Path.{_≡_};
+ghost use Rattle.number.specs.Answer.{answered};
+ghost use Rattle.admission.specs.Admission.{splitRefusal};
 ghost use Rattle.pair.specs.Separation.{measured};
-ghost use Rattle.pair.specs.Norm.{normed};
+ghost use Rattle.pair.specs.Norm.{normOf};
 ghost use Rattle.motion.specs.Scaling.{scalingOf, leaves};
 ghost use Rattle.urtemval.specs.Told as Told;
 ghost use Rattle.urtemval.specs.Lent.{pairOf};
@@ -25,32 +27,33 @@ pub extern "C" fn urtemval_squared_distance(x: &[[f32; 3]; 4], split: usize) -> 
 
 #[no_mangle]
 pub extern "C" fn urtemval_max_relative_norm(x: &[[f32; 3]; 4], split: usize) -> Value
-    ensures { λ r. ⌜ r ≡ Told.norm (normed (now (x .entry)) split) ⌝ }
+    ensures { λ r. ⌜ r ≡ Told.told (answered (splitRefusal (now (x .entry)) split) (normOf (now (x .entry)) split)) ⌝ }
 {
     let points = *x;
-    answer::norm(norm::max_relative_norm(points, split))
+    answer::told(norm::max_relative_norm(points, split))
 }
 
-// The lent points and displacements hold the scaled ones afterwards. A refused call stores nothing, so that they stay
-// as they were, bit for bit.
+// The lent points and displacements are copied into a pair record, which is lent to the scaling; they hold the scaled
+// ones afterwards. A refused call stores nothing, so that they stay as they were, bit for bit.
 #[no_mangle]
 pub extern "C" fn urtemval_scale_pair(
     x: &mut [[f32; 3]; 4],
     dx: &mut [[f32; 3]; 4],
     max_t: f32,
 ) -> Value
-    ensures answer { λ r. ⌜ r ≡ Told.scaling (scalingOf (pairOf (now (x .entry)) (now (dx .entry))) «max_t») ⌝ }
+    ensures answer { λ r. ⌜ r ≡ Told.told (scalingOf (pairOf (now (x .entry)) (now (dx .entry))) «max_t») ⌝ }
     ensures points { λ r. ⌜ now (x .exit) ≡ leaves (pairOf (now (x .entry)) (now (dx .entry))) «max_t» .x ⌝ }
     ensures moves { λ r. ⌜ now (dx .exit) ≡ leaves (pairOf (now (x .entry)) (now (dx .entry))) «max_t» .dx ⌝ }
 {
     let points = *x;
     let moves = *dx;
-    let out = scaling::scaled_pair(record::pair_of(points, moves), max_t);
-    if out.taken {
+    let out = scaling::after_scaling(record::pair_of(points, moves), max_t);
+    let factor = out.answer;
+    let told = answer::told(factor);
+    if told.refusal == 0 {
         let scaled = out.pair;
         *x = record::x_of(scaled);
         *dx = record::dx_of(scaled);
     }
-    let told = out.answer;
-    answer::scaling(told)
+    told
 }

@@ -1,7 +1,8 @@
 // The square root, the two root finders, and the times at which a pair's four points lie in one plane
 // (`number::root::square_root`, `polynomial_root`, `motion::coplanar::coplanar_time_mat3x4`).
 ghost use mathlib.Core.Path.{_≡_};
-ghost use Rattle.number.specs.Root.{squareRoot};
+ghost use Rattle.number.specs.Answer.{answered};
+ghost use Rattle.number.specs.Root.{rootOf, rootRefusal};
 ghost use Rattle.polynomial_root.specs.Newton.{cubicOf};
 ghost use Rattle.polynomial_root.specs.Called.{quadraticRoot, cubicRootsInRange};
 ghost use Rattle.motion.specs.Coplanar.{coplanarTimes};
@@ -14,9 +15,9 @@ use polynomial_root::answer::Roots;
 
 #[no_mangle]
 pub extern "C" fn urtemval_square_root(x: f32) -> Value
-    ensures { λ r. ⌜ r ≡ Told.squareRoot (squareRoot x) ⌝ }
+    ensures { λ r. ⌜ r ≡ Told.told (answered (rootRefusal x) (rootOf x)) ⌝ }
 {
-    answer::square_root(root::square_root(x))
+    answer::told(root::square_root(x))
 }
 
 #[no_mangle]

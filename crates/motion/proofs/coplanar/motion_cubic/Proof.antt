@@ -1,5 +1,5 @@
 -- `motion::coplanar::motion_cubic` meets its contract. Assumes nothing.
-use mathlib.Core.Path.{_≡_, _∙_}
+use mathlib.Core.Path.{_∙_}
 use borrow.Author.Needs.{needs}
 use Rattle.motion.specs.Coplanar.{volume, motionCubic}
 use Rattle.motion.proofs.coplanar.motion_cubic.Statement.{statement}

@@ -47,18 +47,17 @@ use denote.Triple.Table.{entered, cited}
 use denote.Triple.Walked.{says, Stays, stay-ref, stay-none, walkOf, AllGo, goes-none, goes-ref, Walks, ends-at}
 use denote.Triple.Walked.{walked, walk-meets}
 use denote.Exit.{yes}
+use Rattle.number.specs.declared.answer.Answered.{Answered}
+use Rattle.number.proofs.answer.Answered as N
+use Rattle.number.proofs.answer.Answered.Laws as N′
 use Rattle.motion.specs.declared.record.Pair.{Pair}
-use Rattle.motion.specs.declared.scaling.Scaling.{Scaling}
 use Rattle.motion.specs.declared.scaling.Outcome.{Outcome}
 use Rattle.motion.specs.Scaling.{scalingOf, leaves, outcome}
-use Rattle.motion.proofs.Scalings.{finite-there}
+use Rattle.motion.proofs.Scalings.{scales}
 use Rattle.motion.proofs.Lent.{pairVal, answerVal, outcomeVal, IsPair, IsAnswer, part, owes, answered, stored}
-use Rattle.motion.proofs.Scalings.{finite-there}
 use Rattle.motion.proofs.Lent.{left}
 use Rattle.motion.proofs.record.Pair as T
 use Rattle.motion.proofs.record.Pair.Laws as T′
-use Rattle.motion.proofs.scaling.Scaling as N
-use Rattle.motion.proofs.scaling.Scaling.Laws as N′
 use Rattle.motion.proofs.scaling.Outcome as O
 use Rattle.motion.proofs.scaling.Outcome.Laws as O′
 use Rattle.motion.proofs.scaling.scaled_pair as core
@@ -99,7 +98,7 @@ module _
         Post = walkOf 𝓤 H A f.ended stayed (f.clauses 𝓤 H A at-mem run) .post (((κ, tt), (q, tt), tt, x, at), tt)
 
         -- the exit, at the pair h′ and the answer a
-        exits : (h′ : Pair) (a : Scaling) → IsAnswer a → a ≡ scalingOf h t → h′ ≡ leaves h t
+        exits : (h′ : Pair) (a : Answered) → IsAnswer a → a ≡ scalingOf h t → h′ ≡ leaves h t
             → ent 𝓤
             (sep 𝓤 (A .obs γ (T.the-row .coded .code h′))
             (sep 𝓤 (A .bor κ (Body (mem T.the-row) b o γ)) (A .lft κ q)))
@@ -111,7 +110,7 @@ module _
             suffices ! _
             (ends-at 𝓤 H A f.ended stayed (f.clauses 𝓤 H A at-mem run) W (((κ, tt), (q, tt), tt, x, at), tt)
             (answerVal a) a (h′, (tt, tt)) (tt, (tt, tt))) $
-            says ! (e, e′, finite-there h t a h′ e e′) $ nothing ! $ move ! (3 ∷ 0 ∷ []) $ join ! $ frame ! $
+            says ! (scales h t a h′ e e′) $ nothing ! $ move ! (3 ∷ 0 ∷ []) $ join ! $ frame ! $
             feqI ! (List Val) (vptr b o ∷ []) (vptr b o ∷ []) refl $ fjoin3 ! $ nothing ! $
             owned ! f32 (Is f32) (float-makes 𝓤 H A W binary32) t _ (refl, ok) $ fjoin ! $ move ! (1 ∷ 0 ∷ []) $
             fjoin ! $

@@ -3,7 +3,7 @@ use mathlib.Core.Path.{_∙_}
 use borrow.Author.Needs.{needs}
 use Rattle.pair.specs.Points.{movedInto}
 use Rattle.pair.proofs.StayFinite.{with-finite, moved-finite}
-use Rattle.admission.proofs.Taken.{taken, refused}
+use Rattle.number.proofs.Answers.{taken, refused}
 use Rattle.pair.proofs.points.add_scaled.Statement.{statement}
 use Rattle.pair.proofs.points.add_scaled.Tie as tie
 

@@ -10,10 +10,11 @@ use Rattle.number.specs.Range.{isFinite}
 use Rattle.geometry.specs.Vec3.{vec}
 use Rattle.geometry.specs.Edge3.{lerpOf}
 use Rattle.pair.specs.declared.points.Placed.{Placed}
-use Rattle.admission.specs.Admission.{admitted, ofThree, ratioRefusal}
+use Rattle.number.specs.Answer.{admitted}
+use Rattle.admission.specs.Admission.{ofThree, ratioRefusal}
 use Rattle.pair.specs.Points.{placed}
 use Rattle.pair.proofs.StayFinite.{place-finite}
-use Rattle.admission.proofs.Taken.{taken, refused}
+use Rattle.number.proofs.Answers.{taken, refused}
 use Rattle.pair.proofs.points.lerp.Statement.{statement}
 use Rattle.pair.proofs.points.lerp.Tie as tie
 

@@ -4,14 +4,12 @@ use mathlib.Core.Path.{_≡_, _∙_}
 use mathlib.Core.List.{List}
 use lib.Ieee.{Float}
 use borrow.Author.Needs.{needs}
-use Rattle.number.specs.Number.{zero32}
-use Rattle.geometry.specs.Vec3.{vec}
 use Rattle.distance.specs.Nearest.{nearestOf}
 use Rattle.distance.specs.declared.candidate.Nearest.{Nearest}
 use Rattle.pair.specs.declared.separation.Measured.{Measured}
 use Rattle.admission.specs.Admission.{splitRefusal}
 use Rattle.pair.specs.Separation.{foundAt, refusedBy, measured}
-use Rattle.admission.proofs.Taken.{taken, refused}
+use Rattle.number.proofs.Answers.{taken, refused}
 use Rattle.pair.proofs.separation.squared_distance.Statement.{statement}
 use Rattle.pair.proofs.separation.squared_distance.Tie as tie
 

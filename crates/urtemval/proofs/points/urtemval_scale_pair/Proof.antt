@@ -1,78 +1,72 @@
 -- `urtemval::points::urtemval_scale_pair` meets its contract: what is stored is what a scaling leaves, and where
 -- nothing is stored it leaves the lent numbers. Assumes nothing.
-use mathlib.Core.Path.{_≡_, refl, sym, ap, _∙_}
-use mathlib.Core.Bool.{Bool, true, false, cond}
-use mathlib.Core.List.{List}
-use mathlib.Core.Logic.{⊎-elim}
-use lib.Dec.{eqb}
+use mathlib.Core.Path.{_≡_, sym, ap, _∙_, subst}
 use lib.Ieee.{Float}
 use borrow.Author.Needs.{needs}
 use Rattle.motion.specs.declared.record.Pair.{Pair}
-use Rattle.motion.specs.declared.scaling.Outcome.{Outcome}
-use Rattle.motion.specs.Scaling.{scalingRefusal, scalingOf, scaledPair, leaves, outcome}
+use Rattle.motion.specs.declared.scaling.Scaled.{Scaled}
+use Rattle.motion.specs.Scaling.{scalingOf, leaves, Scales}
+use Rattle.motion.proofs.Scalings.{refused-stands}
+use Rattle.urtemval.specs.declared.answer.Value.{Value}
+use Rattle.urtemval.specs.Told.{told}
 use Rattle.urtemval.specs.Lent.{pairOf}
-use Rattle.urtemval.specs.Told as Told
 use Rattle.urtemval.proofs.points.urtemval_scale_pair.Statement.{statement}
 use Rattle.urtemval.proofs.points.urtemval_scale_pair.Tie as tie
 
--- the lent pair after a scaling that made the outcome `out` of it
-module _ (x dx : List (List Float)) (t : Float) (p : Pair) (px : p .x ≡ x) (pdx : p .dx ≡ dx)
-    (out : Outcome) (e : out ≡ outcome p t) where
-  whole : p ≡ pairOf x dx
-  whole i = record { x = px i; dx = pdx i }
+-- a pair p is scaled to `out`, and what that answers is told by r
+module _ (p : Pair) (t : Float) (out : Scaled) (h : Scales p t (out .answer) (out .pair)) (r : Value)
+    (e : r ≡ told (out .answer)) where
+  answered : r ≡ told (scalingOf p t)
+  answered = e ∙ ap told (h .answer)
 
-  made : out ≡ outcome (pairOf x dx) t
-  made = rw whole at e
+  stands : (r .refusal ≡ 0 → ⊥) → p ≡ leaves p t
+  unfolding told
+  stands z =
+      let number = ap (λ (v : Value). v .refusal) e ∙ h .refusal in
+      sym (refused-stands p t (λ n. z (number ∙ n)))
 
-  answered : out .answer ≡ scalingOf (pairOf x dx) t
-  unfolding outcome
-  answered = ap (λ (o : Outcome). o .answer) made
-
-  stored : out .pair ≡ leaves (pairOf x dx) t
-  unfolding outcome
-  stored = ap (λ (o : Outcome). o .pair) made
-
-  kept : out .taken ≡ false → pairOf x dx ≡ leaves (pairOf x dx) t
-  unfolding outcome leaves
-  kept z = rw (sym (ap (λ (o : Outcome). o .taken) made) ∙ z)
-
--- the same at the call of `scaled_pair`
-module _ (s : tie.After-scaled-pair) where
+-- the same once the answer is told, of the lent pair
+module _ (s : tie.After-told) where
   abbrev lent : Pair
-  lent = let a = s .before .before .before .before .args in pairOf (a .x .now) (a .dx .now)
+  lent = let a = s .before .before .before .before .before .args in pairOf (a .x .now) (a .dx .now)
 
   abbrev limit : Float
-  limit = s .before .before .before .before .args .max-t
+  limit = s .before .before .before .before .before .args .max-t
 
-  told-at : s .scaled-pair .result .answer ≡ scalingOf lent limit
-  told-at =
-      answered (lent .x) (lent .dx) limit (s .before .pair-of .result) (s .before .pair-of .ensures .0)
-      (s .before .pair-of .ensures .1) (s .scaled-pair .result) (s .scaled-pair .ensures)
+  whole : s .before .before .pair-of .result ≡ lent
+  whole =
+      let made = s .before .before .pair-of .ensures in
+      λ i. record { x = made .0 i; dx = made .1 i }
 
-  stored-at : s .scaled-pair .result .pair ≡ leaves lent limit
-  stored-at =
-      stored (lent .x) (lent .dx) limit (s .before .pair-of .result) (s .before .pair-of .ensures .0)
-      (s .before .pair-of .ensures .1) (s .scaled-pair .result) (s .scaled-pair .ensures)
+  scales : Scales lent limit (s .before .after-scaling .result .answer) (s .before .after-scaling .result .pair)
+  scales =
+      let out = s .before .after-scaling in
+      subst (λ (p : Pair). Scales p limit (out .result .answer) (out .result .pair)) whole (out .ensures)
 
-  kept-at : s .scaled-pair .result .taken ≡ false → lent ≡ leaves lent limit
-  kept-at =
-      kept (lent .x) (lent .dx) limit (s .before .pair-of .result) (s .before .pair-of .ensures .0)
-      (s .before .pair-of .ensures .1) (s .scaled-pair .result) (s .scaled-pair .ensures)
+  told-at : s .told .result ≡ told (scalingOf lent limit)
+  told-at = answered lent limit (s .before .after-scaling .result) scales (s .told .result) (s .told .ensures)
+
+  stands-at : (s .told .result .refusal ≡ 0 → ⊥) → lent ≡ leaves lent limit
+  stands-at = stands lent limit (s .before .after-scaling .result) scales (s .told .result) (s .told .ensures)
 
 returns : tie.Need-returns
 returns c =
-    let s = c .before .before in (
-      c .scaling .ensures ∙ ap Told.scaling (told-at s),
+    let s = c .before .before .before .before .before in (
+      told-at s,
       (
-        ⊎-elim (λ w. w .4 ∙ w .2 .ensures ∙ ap (λ (q : Pair). q .x) (stored-at s))
-            (λ w. w .1 ∙ ap (λ (q : Pair). q .x) (kept-at s (w .0 .left))) (c .before .if1 .came),
-        ⊎-elim (λ w. w .5 ∙ w .3 .ensures ∙ ap (λ (q : Pair). q .dx) (stored-at s))
-            (λ w. w .2 ∙ ap (λ (q : Pair). q .dx) (kept-at s (w .0 .left))) (c .before .if1 .came),
+        c .before .x-of .ensures ∙ ap (λ (q : Pair). q .x) (scales s .left),
+        c .dx-of .ensures ∙ ap (λ (q : Pair). q .dx) (scales s .left),
       ),
     )
+
+returns-2 : tie.Need-returns-2
+returns-2 c =
+    let s = c .before .before in
+    let same = stands-at s (c .if1 .left) in
+    (told-at s, (ap (λ (q : Pair). q .x) same, ap (λ (q : Pair). q .dx) same))
 
 pub urtemval-scale-pair-spec : {M : Type 1} → statement M
 urtemval-scale-pair-spec =
     tie.close
     (tie.spec (λ c κs. search needs) (λ c κs. search needs) (λ c κs. search needs) (λ c κs. search needs)
-    (λ c κs. search needs) returns)
+    (λ c κs. search needs) returns returns-2)
