@@ -1,5 +1,5 @@
--- The choice as the code makes it, over the list of candidates: it keeps the least squared distance so far, and answers
--- the last candidate that is below the least of those before it, else the first. Proved once for both splits.
+-- The choice as the code makes it, over the list of candidates: it keeps the least squared distance so far, and
+-- answers the last candidate that is below the least of those before it, else the first. Proved once for both splits.
 -- Assumes nothing.
 use mathlib.Core.Path.{_≡_, refl, _∙_}
 use mathlib.Core.Bool.{Bool, true, false, _&&_, cond, false≢true}

@@ -69,16 +69,13 @@ pub(crate) fn edges_above(
     ensures { λ r. ⌜ r ≡ lt threshold (firstSmallest (Def.edgeEdge x0 x1 x2 x3) .squared) ⌝ }
 {
     let p = products::products_of(x0, x1, x2, x3, x2, x0);
-    let inner = interior(p, x0, x1, x2, x3);
-    if edges_meet(p) & (inner.squared <= threshold) {
+    let inner = interior(p, x0, x1, x2, x3).squared;
+    if edges_meet(p) & (inner <= threshold) {
         return false;
     }
-    let c0 = candidate::point_segment(0, x0, x2, x3);
-    let c1 = candidate::point_segment(1, x1, x2, x3);
-    let c2 = candidate::segment_point(2, x0, x1, x2);
-    let c3 = candidate::segment_point(3, x0, x1, x3);
-    (threshold < c0.squared)
-        & !(c1.squared <= threshold)
-        & !(c2.squared <= threshold)
-        & !(c3.squared <= threshold)
+    let d0 = candidate::point_segment(0, x0, x2, x3).squared;
+    let d1 = candidate::point_segment(1, x1, x2, x3).squared;
+    let d2 = candidate::segment_point(2, x0, x1, x2).squared;
+    let d3 = candidate::segment_point(3, x0, x1, x3).squared;
+    (threshold < d0) & !(d1 <= threshold) & !(d2 <= threshold) & !(d3 <= threshold)
 }

@@ -63,12 +63,12 @@ pub(crate) fn face_above(
     ensures { λ r. ⌜ r ≡ lt threshold (firstSmallest (Def.faceVertex x0 x1 x2 x3) .squared) ⌝ }
 {
     let p = products::products_of(x0, x1, x0, x2, x0, x3);
-    let inner = interior(p, x0, x1, x2, x3);
-    if over_face(p) & (inner.squared <= threshold) {
+    let inner = interior(p, x0, x1, x2, x3).squared;
+    if over_face(p) & (inner <= threshold) {
         return false;
     }
-    let c0 = candidate::segment_point(0, x0, x1, x3);
-    let c1 = candidate::segment_point(1, x1, x2, x3);
-    let c2 = candidate::segment_point(2, x2, x0, x3);
-    (threshold < c0.squared) & !(c1.squared <= threshold) & !(c2.squared <= threshold)
+    let d0 = candidate::segment_point(0, x0, x1, x3).squared;
+    let d1 = candidate::segment_point(1, x1, x2, x3).squared;
+    let d2 = candidate::segment_point(2, x2, x0, x3).squared;
+    (threshold < d0) & !(d1 <= threshold) & !(d2 <= threshold)
 }

@@ -1,7 +1,8 @@
 -- `distance::edge_edge::edge_edge` meets its contract: what it answers is the last candidate that is nearer than all
 -- before it, which is the first smallest. Assumes nothing.
 use Rattle.distance.specs.EdgeEdge.{edgeEdge}
-use Rattle.distance.proofs.Choice.{one, more, start, taken, passed, Given, given, inner-answered, other-answered}
+use Rattle.distance.proofs.Choice.{one, more, start, taken, passed}
+use Rattle.distance.proofs.Choice.{Given, given, inner-answered, other-answered}
 use Rattle.distance.proofs.Found.{edges-found}
 use Rattle.distance.proofs.edge_edge.edge_edge.Statement.{statement}
 use Rattle.distance.proofs.edge_edge.edge_edge.Tie as tie
@@ -39,7 +40,8 @@ returns-3 : tie.Need-returns-3
 returns-3 c =
     let else2 = c .before .before in
     let else1 = else2 .before .before in
-    other-answered (gave (else1 .before .before)) (else1 .if1 .left) (passed (else2 .if2 .left) (taken (c .if3 .taken)))
+    other-answered (gave (else1 .before .before)) (else1 .if1 .left)
+    (passed (else2 .if2 .left) (taken (c .if3 .taken)))
 
 returns-4 : tie.Need-returns-4
 returns-4 c =

@@ -8,7 +8,7 @@ use Rattle.distance.proofs.edge_edge.edges_above.Tie as tie
 
 returns : tie.Need-returns
 returns c =
-    let meet = c .before .before in
+    let meet = c .before in
     inner-reaches _
     (edges-found _ _ _ _ refl refl refl refl (meet .before .before .products-of .ensures)
     (meet .before .interior .ensures) (meet .edges-meet .ensures))
@@ -17,14 +17,13 @@ returns c =
 returns-2 : tie.Need-returns-2
 unfolding allAbove
 returns-2 c =
-    let end3 = c .before .before .before .before in
-    let end2 = end3 .before in
+    let end2 = c .before in
     let end1 = end2 .before in
     let end0 = end1 .before in
-    let meet = end0 .before .before .before in
+    let meet = end0 .before .before in
     inner-clears _
     (edges-found _ _ _ _ (end0 .point-segment .ensures) (end1 .point-segment2 .ensures)
-    (end2 .segment-point .ensures) (end3 .segment-point2 .ensures) (meet .before .before .products-of .ensures)
+    (end2 .segment-point .ensures) (c .segment-point2 .ensures) (meet .before .before .products-of .ensures)
     (meet .before .interior .ensures) (meet .edges-meet .ensures))
     (end0 .before .if1 .left)
 

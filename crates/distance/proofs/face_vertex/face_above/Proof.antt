@@ -8,7 +8,7 @@ use Rattle.distance.proofs.face_vertex.face_above.Tie as tie
 
 returns : tie.Need-returns
 returns c =
-    let over = c .before .before in
+    let over = c .before in
     inner-reaches _
     (face-found _ _ _ _ refl refl refl (over .before .before .products-of .ensures)
     (over .before .interior .ensures) (over .over-face .ensures))
@@ -17,13 +17,12 @@ returns c =
 returns-2 : tie.Need-returns-2
 unfolding allAbove
 returns-2 c =
-    let edge2 = c .before .before .before in
-    let edge1 = edge2 .before in
+    let edge1 = c .before in
     let edge0 = edge1 .before in
-    let over = edge0 .before .before .before in
+    let over = edge0 .before .before in
     inner-clears _
     (face-found _ _ _ _ (edge0 .segment-point .ensures) (edge1 .segment-point2 .ensures)
-    (edge2 .segment-point3 .ensures) (over .before .before .products-of .ensures)
+    (c .segment-point3 .ensures) (over .before .before .products-of .ensures)
     (over .before .interior .ensures) (over .over-face .ensures))
     (edge0 .before .if1 .left)
 
