@@ -16,8 +16,8 @@ use Rattle.number.proofs.Finite.{is-finite}
 use Rattle.number.proofs.Ranges.{in-limit, zero-to-limit, zero-to-one, speed-range}
 use Rattle.geometry.specs.Vec3.{at, col}
 use Rattle.admission.specs.declared.Limits.{Limits}
-use Rattle.admission.specs.Admission.{refusal, ofThree, ofTwelve, finitePoints, limitPoints, isSplit, rangedLimits}
-use Rattle.admission.specs.Admission.{finiteLimits, finiteWalk, rangedWalk, walkRefusal}
+use Rattle.admission.specs.Admission.{refusal, ofThree, ofTwelve, finitePoints, limitPoints, isSplit}
+use Rattle.admission.specs.Admission.{finiteLimits, rangedLimits, finiteWalk, rangedWalk, walkRefusal}
 use Rattle.admission.specs.Admission.{pointsRefusal, splitRefusal, factorRefusal, motionRefusal, timeRefusal}
 use Rattle.admission.specs.Admission.{ratioRefusal}
 
@@ -112,7 +112,8 @@ points-real x h =
     (and-i (real 0) (real 1) (three-real (col x 0) (q .0)) (three-real (col x 1) (q .1)))
     (three-real (col x 2) (q .2))) (three-real (col x 3) (q .3))
 
-pub pair-real : (x dx : List (List Float)) → T (limitPoints x && limitPoints dx) → T (finitePoints x && finitePoints dx)
+pub pair-real : (x dx : List (List Float)) → T (limitPoints x && limitPoints dx)
+    → T (finitePoints x && finitePoints dx)
 pair-real x dx h =
     and-i (finitePoints x) (finitePoints dx) (points-real x (and-l (limitPoints x) (limitPoints dx) h))
     (points-real dx (and-r (limitPoints x) (limitPoints dx) h))

@@ -1,10 +1,16 @@
 // The tests of four points and of what callers hand over with them (docs/01-scope.md, "What callers hand over, and the
-// numbers allowed", "Refusal numbers"): 1, some number is NaN or infinite; 2, none is, but one lies beyond its range, or
-// the split is neither 2 nor 3; 0, admitted.
+// numbers allowed", "Refusal numbers"): 1, some number is NaN or infinite; 2, none is, but one lies beyond its range,
+// or the split is neither 2 nor 3; 0, admitted.
 ghost use mathlib.Core.Path.{_≡_};
-ghost use Rattle.number.specs.Range.{isFinite, inLimit};
 ghost use Rattle.admission.specs.Admission as Def;
+use crate::points::points_finite;
+use crate::points::points_in_limit;
+use crate::points::three_finite;
+use crate::points::three_in_limit;
 use number::range;
+
+// The numbers of points.
+pub mod points;
 
 // What the safe time is asked with, beside the pair and its split.
 #[repr(C)]
@@ -31,40 +37,6 @@ fn is_split(split: usize) -> bool
     ensures { λ r. ⌜ r ≡ Def.isSplit split ⌝ }
 {
     (split == 2) | (split == 3)
-}
-
-fn three_finite(v: [f32; 3]) -> bool
-    ensures { λ r. ⌜ r ≡ Def.ofThree isFinite v ⌝ }
-{
-    range::is_finite(v[0]) & range::is_finite(v[1]) & range::is_finite(v[2])
-}
-
-fn three_in_limit(v: [f32; 3]) -> bool
-    ensures { λ r. ⌜ r ≡ Def.ofThree inLimit v ⌝ }
-{
-    range::in_limit(v[0]) & range::in_limit(v[1]) & range::in_limit(v[2])
-}
-
-// The twelve numbers of four points are finite.
-pub fn points_finite(x: [[f32; 3]; 4]) -> bool
-    ensures { λ r. ⌜ r ≡ Def.finitePoints x ⌝ }
-{
-    let a = x[0];
-    let b = x[1];
-    let c = x[2];
-    let d = x[3];
-    three_finite(a) & three_finite(b) & three_finite(c) & three_finite(d)
-}
-
-// The twelve numbers of four points are 2^20 in size at most.
-fn points_in_limit(x: [[f32; 3]; 4]) -> bool
-    ensures { λ r. ⌜ r ≡ Def.limitPoints x ⌝ }
-{
-    let a = x[0];
-    let b = x[1];
-    let c = x[2];
-    let d = x[3];
-    three_in_limit(a) & three_in_limit(b) & three_in_limit(c) & three_in_limit(d)
 }
 
 fn limits_finite(limits: Limits) -> bool

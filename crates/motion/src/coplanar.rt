@@ -60,8 +60,8 @@ fn motion_cubic(x: [[f32; 3]; 4], dx: [[f32; 3]; 4]) -> Cubic
     )
 }
 
-// The times from 0 to 1, in the order of the cubic's spans. Refusals 1, 2, 6, 7, 8; by 1 where, and only where, a number
-// handed over is not finite: the coefficients computed from admitted points are.
+// The times from 0 to 1, in the order of the cubic's spans. Refusals 1, 2, 6, 7, 8; by 1 where, and only where, a
+// number handed over is not finite: the coefficients computed from admitted points are.
 pub fn coplanar_time_mat3x4(x0: [[f32; 3]; 4], dx: [[f32; 3]; 4]) -> Roots
     ensures answer { λ r. ⌜ r ≡ Def.coplanarTimes x0 dx ⌝ }
     ensures tidy { λ r. ⌜ Tidy r ⌝ }

@@ -45,7 +45,7 @@ fn finite_pair(p: Pair) -> bool
 {
     let x = record::x_of(p);
     let dx = record::dx_of(p);
-    admission::points_finite(x) & admission::points_finite(dx)
+    admission::points::points_finite(x) & admission::points::points_finite(dx)
 }
 
 // The pair stays as it was.
@@ -85,8 +85,8 @@ fn scaled_pair(p: Pair, max_t: f32) -> Outcome
     }
 }
 
-// Scales the lent pair and answers the product of the factors, or a refusal by 1, 2, 4 or 5; a refused pair stays as it
-// was, bit for bit.
+// Scales the lent pair and answers the product of the factors, or a refusal by 1, 2, 4 or 5; a refused pair stays as
+// it was, bit for bit.
 pub fn normalize_centerized_configuration(pair: &mut Pair, max_t: f32) -> Answered
     ensures { λ r. ⌜ Def.Scales (now (pair .entry)) «max_t» r (now (pair .exit)) ⌝ }
 {

@@ -1,7 +1,7 @@
--- `admission::three_finite` meets its contract. Assumes nothing.
+-- `admission::points::three_finite` meets its contract. Assumes nothing.
 use borrow.Author.Needs.{needs}
-use Rattle.admission.proofs.three_finite.Statement.{statement}
-use Rattle.admission.proofs.three_finite.Tie as tie
+use Rattle.admission.proofs.points.three_finite.Statement.{statement}
+use Rattle.admission.proofs.points.three_finite.Tie as tie
 
 array-read-is-finite : tie.Need-array-read-is-finite
 array-read-is-finite c = search needs

@@ -1,7 +1,7 @@
--- `admission::three_in_limit` meets its contract. Assumes nothing.
+-- `admission::points::three_in_limit` meets its contract. Assumes nothing.
 use borrow.Author.Needs.{needs}
-use Rattle.admission.proofs.three_in_limit.Statement.{statement}
-use Rattle.admission.proofs.three_in_limit.Tie as tie
+use Rattle.admission.proofs.points.three_in_limit.Statement.{statement}
+use Rattle.admission.proofs.points.three_in_limit.Tie as tie
 
 array-read-in-limit : tie.Need-array-read-in-limit
 array-read-in-limit c = search needs

@@ -1,8 +1,8 @@
--- `admission::points_finite` meets its contract. Assumes nothing.
+-- `admission::points::points_finite` meets its contract. Assumes nothing.
 use borrow.Author.Needs.{needs}
 use Rattle.admission.specs.Admission.{finitePoints}
-use Rattle.admission.proofs.points_finite.Statement.{statement}
-use Rattle.admission.proofs.points_finite.Tie as tie
+use Rattle.admission.proofs.points.points_finite.Statement.{statement}
+use Rattle.admission.proofs.points.points_finite.Tie as tie
 
 array-copy-out-a : tie.Need-array-copy-out-a
 array-copy-out-a c = search needs

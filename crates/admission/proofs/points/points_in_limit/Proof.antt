@@ -1,8 +1,8 @@
--- `admission::points_in_limit` meets its contract. Assumes nothing.
+-- `admission::points::points_in_limit` meets its contract. Assumes nothing.
 use borrow.Author.Needs.{needs}
 use Rattle.admission.specs.Admission.{limitPoints}
-use Rattle.admission.proofs.points_in_limit.Statement.{statement}
-use Rattle.admission.proofs.points_in_limit.Tie as tie
+use Rattle.admission.proofs.points.points_in_limit.Statement.{statement}
+use Rattle.admission.proofs.points.points_in_limit.Tie as tie
 
 array-copy-out-a : tie.Need-array-copy-out-a
 array-copy-out-a c = search needs
