@@ -10,7 +10,7 @@ use native.Mathlib.Omega.{arith}
 use lib.Dec.{T, not-T}
 use lib.Ieee.Bits.{is-false}
 use lib.Ieee.{Float, lt, le}
-use Rattle.number.specs.Number.{_⊖_, _⊗_, _⊘_, zero32, smaller, larger}
+use Rattle.number.specs.Number.{_⊖_, _⊗_, _⊘_, zero32, largest32, smaller, larger}
 use Rattle.number.proofs.Transitive.{lt-trans, lt-self}
 use Rattle.geometry.specs.Vec3.{dot}
 use Rattle.ccd3.specs.declared.Aim.{Aim}
@@ -23,7 +23,6 @@ use Rattle.ccd3.specs.Directional.{
   projected,
   lessened,
   leastOver,
-  largest,
 }
 use Rattle.ccd3.specs.Tables.{timeLeft, entry, leastIn}
 
@@ -84,19 +83,19 @@ module _ (reach time : List (List Float)) (dip : Float) where
 -- ---- the tables
 -- no least time is above the largest f32, from which it starts
 abbrev Under : Float → Type 0
-Under t = T (lt largest t) → ⊥
+Under t = T (lt largest32 t) → ⊥
 
 under-smaller : (least t : Float) → Under least → Under (smaller least t)
 unfolding smaller
 under-smaller least t h = go (lt t least) (λ u. u)
   where
-    go : (b : Bool) → (T b → T (lt t least)) → T (lt largest (cond b t least)) → ⊥
-    go true f u = h (lt-trans largest t least u (f tt))
+    go : (b : Bool) → (T b → T (lt t least)) → T (lt largest32 (cond b t least)) → ⊥
+    go true f u = h (lt-trans largest32 t least u (f tt))
     go false f u = h u
 
-with-largest : (least : Float) → Under least → smaller least largest ≡ least
+with-largest : (least : Float) → Under least → smaller least largest32 ≡ least
 unfolding smaller
-with-largest least h = rw (is-false (lt largest least) (not-T (lt largest least) h))
+with-largest least h = rw (is-false (lt largest32 least) (not-T (lt largest32 least) h))
 
 module _ (x dx : List (List Float)) (a : Aim) where
   abbrev reachOf : Cross → Float
@@ -110,7 +109,7 @@ module _ (x dx : List (List Float)) (a : Aim) where
   as-smaller least r s h = go (lt zero32 s)
     where
       go : (b : Bool)
-          → smaller least (cond b (larger (r ⊖ a .park ⊗ a .norm) zero32 ⊘ s) largest)
+          → smaller least (cond b (larger (r ⊖ a .park ⊗ a .norm) zero32 ⊘ s) largest32)
           ≡ cond b (smaller least (larger (r ⊖ a .park ⊗ a .norm) zero32 ⊘ s)) least
       go true = refl
       go false = with-largest least h
@@ -138,5 +137,5 @@ module _ (x dx : List (List Float)) (a : Aim) where
         ∙ ap (leastOver a x dx ps) step)
 
     pub tables-give : (ps : List Cross) → Tabled ps
-        → leastIn reach time (a .dip ⊗ a .norm) ps largest ≡ leastOver a x dx ps largest
-    tables-give ps h = alike ps h largest (lt-self largest)
+        → leastIn reach time (a .dip ⊗ a .norm) ps largest32 ≡ leastOver a x dx ps largest32
+    tables-give ps h = alike ps h largest32 (lt-self largest32)

@@ -12,7 +12,7 @@ use lib.Ieee.Fits.{add-fits, mul-fits, div-fits, cond-fits, and-l, and-r}
 use lib.Ieee.Bits.{ofBits-fits}
 use lib.Ieee.Positive.{positive}
 use lib.Ieee.Scale.{finite}
-use Rattle.number.specs.Number.{_⊕_, _⊖_, _⊗_, _⊘_, zero32, half32, one32, smaller, larger}
+use Rattle.number.specs.Number.{_⊕_, _⊖_, _⊗_, _⊘_, zero32, half32, one32, largest32, smaller, larger}
 use Rattle.number.specs.Range.{limit, zeroToLimit, speedRange}
 use Rattle.number.specs.Root.{rootOf}
 use Rattle.number.proofs.Later.{later-any}
@@ -36,7 +36,6 @@ use Rattle.ccd3.specs.Directional.{
   projected,
   leastOver,
   directional,
-  largest,
 }
 use Rattle.ccd3.specs.Step.{park, dip, plain, aim, Visit, step, next}
 use Rattle.ccd3.proofs.PlainStep.{Most, excess-plus}
@@ -103,7 +102,7 @@ least-fits x dx a (p ∷ ps) least h =
 directional-fits : (x dx : List (List Float)) (split : ℕ) (a : Aim) → T (fits binary32 (directional x dx split a))
 unfolding directional
 directional-fits x dx split a =
-    least-fits x dx a (crossPairs (twoOrThree split)) largest (ofBits-fits binary32 0x7f7f_ffff)
+    least-fits x dx a (crossPairs (twoOrThree split)) largest32 (ofBits-fits binary32 0x7f7f_ffff)
 
 -- ---- the plain step
 from-zero : (x : Float) → T (zeroToLimit x) → T (le zero32 x)

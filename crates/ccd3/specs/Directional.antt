@@ -5,19 +5,16 @@ use mathlib.Core.Bool.{cond}
 use mathlib.Core.List.{List, [], _∷_, map, flatMap}
 use lib.Dec.{eqb}
 use lib.Ieee.{Float, binary32, lt, le, ofBits}
-use Rattle.number.specs.Number.{_⊕_, _⊖_, _⊗_, _⊘_, zero32, size, smaller, larger}
+use Rattle.number.specs.Number.{_⊕_, _⊖_, _⊗_, _⊘_, zero32, largest32, size, smaller, larger}
 use Rattle.geometry.specs.Vec3.{at, col, vec, minus, dot}
 use Rattle.ccd3.specs.declared.Aim.{Aim}
 
--- 2 ^ -22, the slack for rounding; 6.2e-7, the slack for coordinates; the largest finite f32
+-- 2 ^ -22, the slack for rounding; 6.2e-7, the slack for coordinates
 abbrev pub roundSlack : Float
 roundSlack = ofBits binary32 0x3480_0000
 
 abbrev pub coordSlack : Float
 coordSlack = ofBits binary32 0x3526_6e13
-
-abbrev pub largest : Float
-largest = ofBits binary32 0x7f7f_ffff
 
 -- a column of the first side and one of the second
 pub record Cross : Type 0 where
@@ -76,4 +73,4 @@ module _ (a : Aim) where
 
 unfoldable pub directional : List (List Float) → List (List Float) → ℕ → Aim → Float
 unfolding crossPairs leastOver
-directional x dx split a = leastOver a x dx (crossPairs (twoOrThree split)) largest
+directional x dx split a = leastOver a x dx (crossPairs (twoOrThree split)) largest32

@@ -3,14 +3,14 @@
 use mathlib.Core.Bool.{cond}
 use mathlib.Core.List.{List, [], _∷_}
 use lib.Ieee.{Float, lt, le}
-use Rattle.number.specs.Number.{_⊖_, _⊗_, _⊘_, zero32, smaller, larger}
+use Rattle.number.specs.Number.{_⊖_, _⊗_, _⊘_, zero32, largest32, smaller, larger}
 use Rattle.geometry.specs.Vec3.{at, col}
 use Rattle.ccd3.specs.declared.Aim.{Aim}
-use Rattle.ccd3.specs.Directional.{Cross, largest}
+use Rattle.ccd3.specs.Directional.{Cross}
 
 -- the time of a pair that closes in from `reach` at `speed`; of one that does not, the largest f32
 unfoldable pub timeLeft : Aim → Float → Float → Float
-timeLeft a reach speed = cond (lt zero32 speed) (larger (reach ⊖ a .park ⊗ a .norm) zero32 ⊘ speed) largest
+timeLeft a reach speed = cond (lt zero32 speed) (larger (reach ⊖ a .park ⊗ a .norm) zero32 ⊘ speed) largest32
 
 -- what a table has for a cross pair
 abbrev pub entry : List (List Float) → Cross → Float

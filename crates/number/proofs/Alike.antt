@@ -10,7 +10,7 @@ use lib.Dec.{T, ltb, eqb, lit<, leb·suc-zero, eqb·suc-zero}
 use lib.Ieee.{Float, nan, inf, fin, binary32, up, down, unlike, ofBits}
 use lib.Ieee.{round, neg, sum, add, sub, mul, div, below, level, lt, eq, le}
 use lib.Ieee.Fits.{up-pos, down-pos}
-use Rattle.number.specs.Number.{_⊕_, _⊖_, _⊗_, _⊘_, zero32, smaller, larger, clamp}
+use Rattle.number.specs.Number.{_⊕_, _⊖_, _⊗_, _⊘_, zero32, clamp}
 use Rattle.number.proofs.Units.{plus}
 use Rattle.number.proofs.Zeros.{Zero, zero-of, round-none, sum-first, sum-second, sum-none}
 
@@ -211,14 +211,6 @@ pub cond-alike : {b b' : Bool} {x x' y y' : Float} → b ≡ b' → (b ≡ true 
     → Alike (cond b x y) (cond b' x' y')
 cond-alike {b = true} e f g = rw (← e) (f refl)
 cond-alike {b = false} e f g = rw (← e) (g refl)
-
-pub smaller-alike : {x x' y y' : Float} → Alike x x' → Alike y y' → Alike (smaller x y) (smaller x' y')
-unfolding smaller
-smaller-alike p q = cond-alike (lt-alike q p) (λ t. q) (λ t. p)
-
-pub larger-alike : {x x' y y' : Float} → Alike x x' → Alike y y' → Alike (larger x y) (larger x' y')
-unfolding larger
-larger-alike p q = cond-alike (lt-alike p q) (λ t. q) (λ t. p)
 
 pub clamp-alike : {x x' low low' high high' : Float} → Alike x x' → Alike low low' → Alike high high'
     → Alike (clamp x low high) (clamp x' low' high')

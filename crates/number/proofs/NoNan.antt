@@ -9,7 +9,7 @@ use lib.Ieee.{Float, nan, inf, fin, binary32, binary64, ne, lt, le, fits, isNan,
 use lib.Ieee.{div, unlike}
 use lib.Ieee.Bits.{ofBits-fits, nanBits-is}
 use lib.Ieee.Compare.{nan-differs}
-use lib.Ieee.Fits.{and-i, and-l, fits-widens, round-is}
+use lib.Ieee.Fits.{and-i, fits-widens, round-is}
 use lib.Ieee.Order.{drop, kept}
 use lib.Ieee.Scale.{finite}
 use Rattle.number.specs.Number.{zero32}
@@ -38,9 +38,6 @@ no-nan-le (inf s) (inf t) h = (tt, tt)
 no-nan-le (inf s) (fin t n d) h = (tt, tt)
 no-nan-le (fin s m e) (inf t) h = (tt, tt)
 no-nan-le (fin s m e) (fin t n d) h = (tt, tt)
-
-pub no-nan-between : (a x b : Float) → (le a x && lt x b) ≡ true → T (not (isNan x))
-no-nan-between a x b h = no-nan-le a x (and-l (le a x) (lt x b) (subst T (sym h) tt)) .1
 
 -- a pattern that is no NaN's
 no-nan-of : (b : ℕ) → b % 2147483648 ≤ 2139095040 → T (not (isNan (ofBits binary32 b)))

@@ -1,5 +1,5 @@
--- The absolute value `size` (specs/Number.antt): what `0 - x` is for an x not above zero, and that a size has the
--- sign plus, fits where its number does, and keeps its bound. Assumes nothing.
+-- The absolute value `size` (specs/Number.antt): what `0 - x` is for an x not above zero, and that any other number is
+-- its own size. Assumes nothing.
 use mathlib.Core.Path.{_≡_, refl, sym, ap, _∙_, subst}
 use mathlib.Core.Bool.{Bool, true, false, not, true≢false}
 use Prim.Native.Nat.{ℕ, zero, suc, _+_, _*_, _^_, _<_}
@@ -15,7 +15,7 @@ use Rattle.number.specs.Number.{_⊕_, _⊖_, zero32, size}
 use Rattle.number.proofs.Rounding.{rnd, rnd-fix}
 use Rattle.number.proofs.Units.{none-is, zero-is, Top, Is, plus, shift, fin-false, same-float, le-says}
 use Rattle.number.proofs.Sums.{add-is}
-use Rattle.number.proofs.Within.{Within, not-lt-le}
+use Rattle.number.proofs.Within.{not-lt-le}
 use Rattle.number.proofs.Signs.{sum-plus}
 
 zero-plus : T (plus zero32)
@@ -80,20 +80,3 @@ own-size (inf true) h = absurd (true≢false h)
 own-size (inf false) h = refl
 own-size (fin false m e) h = refl
 own-size (fin true m e) h = absurd (subst T h (not-lt-le zero32 (fin true m e) zero-nan tt tt))
-
--- ---- what every size keeps
-pub size-plus : (x : Float) → T (not (isNan x)) → T (plus (size x))
-unfolding size isNan
-size-plus (inf s) h = tt
-size-plus (fin s m e) h = tt
-
-pub size-fits : (x : Float) → T (fits binary32 x) → T (fits binary32 (size x))
-unfolding size fits
-size-fits nan f = tt
-size-fits (inf s) f = tt
-size-fits (fin s zero e) f = f
-size-fits (fin s (suc m) e) f = f
-
-pub size-within : (a : ℕ) (x : Float) → Within a x → Within a (size x)
-unfolding size
-size-within a (fin s m e) h = h

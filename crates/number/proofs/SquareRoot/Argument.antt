@@ -9,7 +9,6 @@ use native.Mathlib.Nat.{le-trans, le-of-eq, le-of-lt, le-refl, lt-of-lt-of-le, l
 use native.Mathlib.Nat.{eq-zero-or-pos, mul-assoc, mul-one, mul-le-mul-right}
 use native.Mathlib.Omega.{arith}
 use lib.Dec.{T, ltb→lt}
-use lib.IntN.{ℤ}
 use lib.Pow.{pow-add, pow-mono, shl-lt, shl-exact}
 use lib.Count.{leadingZeros, leading-top}
 use lib.Ieee.{Float, nan, inf, fin, binary32, up, down, lt, fits, ofBits, toBits}
@@ -54,13 +53,6 @@ pub below : (x : Float) → lt x zero32 ≡ true → zero32 ≡ rootOf x
 below x h = not-above x (below-not-above x h)
 
 -- ---- the patterns of numbers above zero
-zero-not-above : (e : ℤ) → T (lt zero32 (fin false 0 e)) → ⊥
-unfolding lt ofBits
-zero-not-above e h = none (down e) (up e) (ltb→lt (0 * down e) (0 * up e * 1) h)
-  where
-    none : (a b : ℕ) → 0 * a < 0 * b * 1 → ⊥
-    none a b h = omega arith
-
 above-bits : (x : Float) → T (fits binary32 x) → T (lt zero32 x) → toBits binary32 x ≤ 2139095040
 unfolding lt ofBits
 above-bits (inf false) f h = unfold toBits in le-refl 2139095040

@@ -1,6 +1,6 @@
 -- `root_test::answer_all` stays within both slices: five bytes out for four bytes in. Assumes nothing.
 use mathlib.Core.Path.{_≡_}
-use Prim.Native.Nat.{_+_, _*_, _-_, _≤_}
+use Prim.Native.Nat.{_*_, _-_, _≤_}
 use native.Mathlib.Omega.{arith}
 use lib.ListN.{length}
 use Rattle.io.proofs.Counting.{counts}

@@ -7,7 +7,8 @@ use native.Mathlib.Nat.{sub-zero}
 use native.Mathlib.Omega.{arith}
 use borrow.Author.Needs.{needs}
 use lib.Ieee.{Float}
-use Rattle.ccd3.specs.Directional.{Cross, cross, crossPairs, largest}
+use Rattle.ccd3.specs.Directional.{Cross, cross, crossPairs}
+use Rattle.number.specs.Number.{largest32}
 use Rattle.ccd3.specs.Tables.{leastIn}
 use Rattle.ccd3.proofs.CrossPairs.{
   rows,
@@ -26,7 +27,7 @@ use Rattle.ccd3.proofs.directional.over_sides.Tie as tie
 -- the pairs ps make of the least time so far what all the pairs make of the largest f32
 abbrev Left : ℕ → Float → List (List Float) → List (List Float) → List Cross → Float → Type 0
 Left split dip reach time ps least =
-    leastIn reach time dip ps least ≡ leastIn reach time dip (crossPairs split) largest
+    leastIn reach time dip ps least ≡ leastIn reach time dip (crossPairs split) largest32
 
 abbrev Inv-loop : tie.InvT-loop
 Inv-loop split dip reach time step₀ i reaches times j₀ step j =
