@@ -1,5 +1,6 @@
 // A test program: the corners of a pair's public calls, one a line (docs/01-scope.md, "Corners to check",
-// "Scaling a pair", "Refusal numbers").
+// "Scaling a pair", "Refusal numbers"). The lines that it must write are the oracle's for the same calls (`oracle ask`,
+// docs/TESTING.md): what the model of the rules gives, and the original wherever it answers.
 mod cases;
 mod text;
 

@@ -1,5 +1,7 @@
 // A test program: the square root of each bit pattern on standard input. A pattern is four bytes, lowest first; an
 // answer is five: 0 and the root's pattern, or 1 and the refusal number. Bytes after the last whole pattern are left.
+// What it must write is the processor's own root, and the refusals of docs/01-scope.md (tests/root_oracle.c, which also
+// makes the longer run of tests/square_root).
 ghost use Prim.Native.Nat.{_+_, _*_, _≤_};
 ghost use mathlib.Core.Path.{_≡_};
 ghost use lib.ListN.{length};
