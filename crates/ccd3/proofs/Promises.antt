@@ -52,7 +52,8 @@ module _ (x₀ dx : List (List Float)) (split : ℕ) (l : Limits) where
   unfolding refusalOf kindOf timeOf
   refused-keeps n e is = record {
     number = sym e;
-    counted = sym (ap (λ (w : Walked). length (w .probed)) is);
+    probes-counted = sym (ap (λ (w : Walked). length (w .probed)) is);
+    halvings-counted = sym (ap (λ (w : Walked). w .halvings) is);
     few-probes = zero-le;
     few-halvings = zero-le;
     refused = λ h. record { is-kind = refl; no-time = refl; no-probes = refl; no-halvings = refl };
@@ -75,7 +76,8 @@ module _ (x₀ dx : List (List Float)) (split : ℕ) (l : Limits) where
           → Promised x₀ dx split l 0 kind t (0 + length (w .probed)) (w .halvings)
       unrefused kind t small i touched stopped passed paused = record {
         number = sym e;
-        counted = zero-add _ ∙ sym (ap (λ (v : Walked). length (v .probed)) is);
+        probes-counted = zero-add _ ∙ sym (ap (λ (v : Walked). length (v .probed)) is);
+        halvings-counted = sym (ap (λ (v : Walked). v .halvings) is);
         few-probes = rw zero-add few;
         few-halvings = halves;
         refused = λ n. absurd (n refl);

@@ -78,7 +78,8 @@ module _ (x₀ dx : List (List Float)) (split : ℕ) (l : Limits) where
   -- the numbers of an answer; kinds are 0 touching, 1 contact, 2 clear, 3 budget, 4 refused
   pub record Promised (refusal kind : ℕ) (time : Float) (probes halvings : ℕ) : Type 0 where
     pub number : refusal ≡ safeRefusal x₀ dx split l
-    pub counted : probes ≡ length probed
+    pub probes-counted : probes ≡ length probed
+    pub halvings-counted : halvings ≡ safeWalk x₀ dx split l .halvings
     pub few-probes : probes ≤ allowance
     pub few-halvings : halvings ≤ 256
     pub refused : (refusal ≡ 0 → ⊥) → Refusal kind time probes halvings
