@@ -5,8 +5,8 @@
 - Each public function has a must-fail edit: of its own lines, or of a function of its crate that it calls. The row of
   a function in STATEMENTS.md names edits of that kind, and each edit stands there.
 - README.md lists each file of definitions with its number of lines, and their sum.
-- Each definition of specs/ is reached from a contract; each law of proofs/ is cited, or stands in STATEMENTS.md; each
-  function is called; each import is used.
+- Each definition of specs/ is reached from a contract; each law of proofs/ is cited, or stands in STATEMENTS.md, whose
+  laws are there; each function is called; each import is used.
 """
 import re
 import sys
@@ -178,6 +178,9 @@ def hold_laws():
             cited = counts[name] > words(text)[name] or name.endswith("-spec") or f"`{name}`" in STATEMENTS
             if not cited:
                 fault(name_of(path), f"nothing cites {name}")
+    for name in re.findall(r"`([a-z]+(?:-[a-z]+)+)`", STATEMENTS):
+        if not counts[name]:
+            fault("docs/STATEMENTS.md", f"there is no law {name}")
 
 
 # ---- must-fail edits
