@@ -10,16 +10,13 @@ use lib.Dec.{T, eqb, eqb→eq}
 use lib.Ieee.{Float}
 use lib.Ieee.Bits.{is-true}
 use lib.Ieee.Fits.{and-i, and-l, and-r}
-use Rattle.number.specs.Range.{isFinite, inLimit, zeroToLimit, zeroToOne, speedRange}
+use Rattle.number.specs.Number.{isFinite, inLimit, zeroToLimit, zeroToOne, speedRange}
 use Rattle.number.proofs.Within.{Within, within-finite}
 use Rattle.number.proofs.Finite.{is-finite}
 use Rattle.number.proofs.Ranges.{in-limit, zero-to-limit, zero-to-one, speed-range}
-use Rattle.geometry.specs.Vec3.{at, col}
+use Rattle.geometry.specs.Geometry.{at, col}
 use Rattle.admission.specs.declared.Limits.{Limits}
-use Rattle.admission.specs.Admission.{refusal, ofThree, ofTwelve, finitePoints, limitPoints, isSplit}
-use Rattle.admission.specs.Admission.{finiteLimits, rangedLimits, finiteWalk, rangedWalk, walkRefusal}
-use Rattle.admission.specs.Admission.{pointsRefusal, splitRefusal, factorRefusal, motionRefusal, timeRefusal}
-use Rattle.admission.specs.Admission.{ratioRefusal}
+use Rattle.admission.specs.Admission.{refusal, ofThree, ofTwelve, finitePoints, limitPoints, isSplit, finiteLimits, rangedLimits, finiteWalk, rangedWalk, walkRefusal, pointsRefusal, splitRefusal, factorRefusal, motionRefusal, timeRefusal, ratioRefusal}
 
 -- ---- the three numbers of a verdict
 pub refusal-none : (finite ranged : Bool) → refusal finite ranged ≡ 0 → T finite × T ranged

@@ -5,8 +5,8 @@ use mathlib.Core.Bool.{Bool, cond, _&&_, _||_}
 use mathlib.Core.List.{List}
 use lib.Dec.{eqb}
 use lib.Ieee.{Float}
-use Rattle.number.specs.Range.{isFinite, inLimit, zeroToLimit, zeroToOne, speedRange}
-use Rattle.geometry.specs.Vec3.{at, col}
+use Rattle.number.specs.Number.{isFinite, inLimit, zeroToLimit, zeroToOne, speedRange}
+use Rattle.geometry.specs.Geometry.{at, col}
 use Rattle.admission.specs.declared.Limits.{Limits}
 
 -- 1 where some number is not finite, else 2 where something lies beyond its range, else 0: admitted

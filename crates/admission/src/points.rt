@@ -1,7 +1,7 @@
 // The tests of a point's three numbers and of the twelve of four points (docs/01-scope.md, "What callers hand over, and
 // the numbers allowed").
 ghost use mathlib.Core.Path.{_≡_};
-ghost use Rattle.number.specs.Range.{isFinite, inLimit};
+ghost use Rattle.number.specs.Number.{isFinite, inLimit};
 ghost use Rattle.admission.specs.Admission as Def;
 use number::range;
 

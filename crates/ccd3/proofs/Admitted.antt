@@ -8,10 +8,9 @@ use lib.Ieee.Fits.{and-i}
 use Rattle.number.specs.Number.{zero32, one32}
 use Rattle.number.proofs.Ranges.{zero-to-one}
 use Rattle.number.proofs.Within.{within-finite, within-more}
-use Rattle.geometry.specs.Vec3.{at, col}
-use Rattle.geometry.specs.Columns.{moved}
+use Rattle.geometry.specs.Geometry.{at, col, moved}
 use Rattle.geometry.proofs.Bounds.{PointsWithin, moved-within}
-use Rattle.distance.specs.Nearest.{nearestOf}
+use Rattle.distance.specs.Distance.{nearestOf}
 use Rattle.distance.proofs.Measured.{nearest-measured}
 use Rattle.distance.proofs.Alike.Start.{start-same}
 use Rattle.admission.specs.declared.Limits.{Limits}

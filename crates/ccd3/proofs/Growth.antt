@@ -12,8 +12,7 @@ use lib.Ieee.Fits.{add-fits, mul-fits, div-fits, cond-fits, and-l, and-r}
 use lib.Ieee.Bits.{ofBits-fits}
 use lib.Ieee.Positive.{positive}
 use lib.Ieee.Scale.{finite}
-use Rattle.number.specs.Number.{_⊕_, _⊖_, _⊗_, _⊘_, zero32, half32, one32, largest32, smaller, larger}
-use Rattle.number.specs.Range.{limit, zeroToLimit, speedRange}
+use Rattle.number.specs.Number.{_⊕_, _⊖_, _⊗_, _⊘_, zero32, half32, one32, largest32, smaller, larger, limit, zeroToLimit, speedRange}
 use Rattle.number.specs.Root.{rootOf}
 use Rattle.number.proofs.Later.{later-any}
 use Rattle.number.proofs.Quotients.{div-within}
@@ -23,21 +22,10 @@ use Rattle.number.proofs.Units.{Unit32, plus, of-float}
 use Rattle.number.proofs.Units.Compared.{Is, lt-says, says-lt, le-says}
 use Rattle.number.proofs.Ranges.{zero-to-limit, speed-range}
 use Rattle.number.proofs.Within.{Within, within-finite, within-more, add-within, sub-within, mul-within}
-use Rattle.geometry.specs.Vec3.{dot}
+use Rattle.geometry.specs.Geometry.{dot, Cross, crossPairs}
 use Rattle.admission.specs.declared.Limits.{Limits}
 use Rattle.ccd3.specs.declared.Aim.{Aim}
-use Rattle.ccd3.specs.Directional.{
-  Cross,
-  crossPairs,
-  twoOrThree,
-  gap,
-  rel,
-  lessened,
-  projected,
-  leastOver,
-  directional,
-}
-use Rattle.ccd3.specs.Step.{park, dip, plain, aim, Visit, step, next}
+use Rattle.ccd3.specs.Step.{twoOrThree, gap, rel, lessened, projected, leastOver, directional, park, dip, plain, aim, Visit, step, next}
 use Rattle.ccd3.proofs.PlainStep.{Most, excess-plus}
 
 -- a squared distance that a walk can compute with: an f32 with the sign plus, and not too large

@@ -13,7 +13,7 @@ use denote.Shadow.{shadow}
 use denote.Array.{Array, each}
 use denote.Builtin.{f32}
 use denote.Laws.{Is}
-use Rattle.geometry.specs.Vec3.{at, col}
+use Rattle.geometry.specs.Geometry.{at, col}
 
 each-number : (v : List Float) (us : List Val) → shadow (each Float (f32 .own) v us) → (j : ℕ) → j < length v
     → T (fits binary32 (at v j))

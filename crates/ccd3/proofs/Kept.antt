@@ -21,23 +21,11 @@ use Rattle.ccd3.specs.declared.Answer.{Answer}
 use Rattle.ccd3.specs.declared.Answer.the-variants.{Touching, Contact, Clear, Budget, Refused}
 use Rattle.ccd3.specs.Step.{Visit, next}
 use Rattle.ccd3.specs.Walk.{Walked, visit, above, closing, written, walk}
-use Rattle.ccd3.specs.SafeTime.{squaredPark}
-use Rattle.ccd3.specs.Promise.{InTime, Every, Rising, Stopped}
+use Rattle.ccd3.specs.SafeTime.{squaredPark, InTime, Every, Rising, Stopped}
 use Rattle.ccd3.proofs.WalkLaws.{walk-clears, walk-spends, walk-meets, walk-steps}
 use Rattle.ccd3.proofs.Bracket.{Timely, timely-refl, Bracket, bracket-ends}
 use Rattle.ccd3.proofs.Growth.{above-plus}
-use Rattle.ccd3.proofs.Standing.{
-  zero-timely,
-  Ground,
-  Standing,
-  limit-from,
-  limit-units,
-  stands-on,
-  brackets,
-  next-limit,
-  next-timely,
-  later,
-}
+use Rattle.ccd3.proofs.Standing.{zero-timely, Ground, Standing, limit-from, limit-units, stands-on, brackets, next-limit, next-timely, later}
 
 zero-is : Is zero32 0
 unfolding ofBits

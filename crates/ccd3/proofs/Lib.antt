@@ -9,6 +9,6 @@ pub mod Kept
 pub mod Admitted
 pub mod Promises
 mod Handed
-mod CrossPairs
+mod Tables
 mod HalvingLoop
 mod WalkLoop

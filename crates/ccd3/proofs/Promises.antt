@@ -15,31 +15,10 @@ use Rattle.admission.specs.Admission.{walkRefusal}
 use Rattle.admission.proofs.Admitted.{walk-admits}
 use Rattle.ccd3.specs.declared.Answer.{Answer}
 use Rattle.ccd3.specs.declared.Answer.the-variants.{Touching, Contact, Clear, Budget, Refused}
-use Rattle.ccd3.specs.Answer.{refusalOf, kindOf, timeOf}
-use Rattle.ccd3.specs.Walk.{Walked, start, told}
-use Rattle.ccd3.specs.SafeTime.{allowance, still, touches, between, safeRefusal, safeWalk, safeTimeOf}
-use Rattle.ccd3.specs.Promise.{
-  InTime,
-  Every,
-  Rising,
-  isFar,
-  Touched,
-  Stopped,
-  Passed,
-  Paused,
-  Promised,
-  Promises,
-}
+use Rattle.ccd3.specs.Walk.{refusalOf, kindOf, timeOf, Walked, start, told}
+use Rattle.ccd3.specs.SafeTime.{allowance, still, touches, between, safeRefusal, safeWalk, safeTimeOf, InTime, Every, Rising, isFar, Touched, Stopped, Passed, Paused, Promised, Promises}
 use Rattle.ccd3.proofs.StartLaws.{walked, number-none, safe-refused, safe-touches, safe-walks}
-use Rattle.ccd3.proofs.Standing.{
-  zero-timely,
-  Ground,
-  limit-from,
-  start-number,
-  number-at,
-  start-far,
-  start-stands,
-}
+use Rattle.ccd3.proofs.Standing.{zero-timely, Ground, limit-from, start-number, number-at, start-far, start-stands}
 use Rattle.ccd3.proofs.Kept.{Says, Kept, in-time, clear-in-time, walk-keeps}
 use Rattle.ccd3.proofs.Admitted.{Fitting, ground}
 

@@ -12,8 +12,7 @@ use lib.Ieee.{Float, fin, binary32, lt, le, eq, fits, isNan, ofBits}
 use lib.Ieee.Bits.{ofBits-fits}
 use lib.Ieee.Fits.{and-i, and-l, and-r, eq→eqb}
 use lib.Ieee.Scale.{finite}
-use Rattle.number.specs.Number.{zero32, one32}
-use Rattle.number.specs.Range.{zeroToOne}
+use Rattle.number.specs.Number.{zero32, one32, zeroToOne}
 use Rattle.number.proofs.Comparing.{not-lt-le}
 use Rattle.number.proofs.NoNan.{no-nan-le}
 use Rattle.number.proofs.Signs.{plus-up}
@@ -22,8 +21,8 @@ use Rattle.number.proofs.Units.{Unit32, plus, of-float, of-range, same-float}
 use Rattle.number.proofs.Units.Compared.{L, Is, eq-is, le-says, says-le, says-lt}
 use Rattle.number.proofs.Ranges.{zero-to-one}
 use Rattle.number.proofs.Within.{within-finite}
-use Rattle.geometry.specs.Columns.{moved}
-use Rattle.distance.specs.Nearest.{nearestOf}
+use Rattle.geometry.specs.Geometry.{moved}
+use Rattle.distance.specs.Distance.{nearestOf}
 use Rattle.admission.specs.declared.Limits.{Limits}
 use Rattle.ccd3.specs.Step.{Visit, next}
 use Rattle.ccd3.specs.Walk.{squaredAt, above, start, visit}

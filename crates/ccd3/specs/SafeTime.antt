@@ -1,17 +1,21 @@
--- The safe time of a pair, refused ones too (docs/01-scope.md, "Refusal numbers", "The walk"). Definitions only.
-use Prim.Native.Nat.{ℕ, zero, suc}
-use mathlib.Core.Bool.{Bool, true, false, cond, _&&_, _||_}
-use mathlib.Core.List.{List, []}
-use lib.Ieee.{Float, lt, le, eq}
-use Rattle.number.specs.Number.{_⊗_, zero32}
-use Rattle.distance.specs.Nearest.{nearestOf}
+-- The safe time of a pair, refused ones too (docs/01-scope.md, "Refusal numbers", "The walk"), and what every answer
+-- promises (docs/GUARANTEES.md). Definitions only.
+use Prim.Native.Nat.{ℕ, zero, suc, _≤_}
+use mathlib.Core.Bool.{Bool, true, false, cond, _&&_, _||_, not}
+use mathlib.Core.List.{List, [], _∷_}
+use lib.Ieee.{Float, lt, le, eq, isNan}
+use Rattle.number.specs.Number.{_⊗_, zero32, nextUp}
+use Rattle.distance.specs.Distance.{nearestOf}
 use Rattle.admission.specs.declared.Limits.{Limits}
 use Rattle.admission.specs.Admission.{walkRefusal}
 use Rattle.ccd3.specs.declared.Answer.{Answer}
 use Rattle.ccd3.specs.declared.Answer.the-variants.{Touching, Refused}
 use Rattle.ccd3.specs.declared.SafeTime.{SafeTime}
 use Rattle.ccd3.specs.Step.{park}
-use Rattle.ccd3.specs.Walk.{Walked, start, walk, told}
+use Rattle.ccd3.specs.Walk.{Walked, start, walk, told, refusalOf, kindOf, timeOf, written, squaredAt, above}
+use mathlib.Core.Path.{_≡_}
+use lib.Dec.{T}
+use lib.ListN.{length}
 
 abbrev pub squaredPark : Limits → Float
 squaredPark l = park l ⊗ park l
@@ -56,3 +60,86 @@ module _ (x₀ dx : List (List Float)) (split : ℕ) (l : Limits) where
 unfoldable pub safeTimeOf : List (List Float) → List (List Float) → ℕ → Limits → SafeTime
 unfolding safeWalk
 safeTimeOf x₀ dx split l = told 0 (safeWalk x₀ dx split l)
+
+-- ---- the promises, over the numbers of the answer and the walk of the definition
+-- a time from 0 to the time limit, a zero with the sign plus
+pub record InTime (l : Limits) (t : Float) : Type 0 where
+  pub from : T (le zero32 t)
+  pub to : T (le t (l .«max_t»))
+  pub plus : t ≡ written t
+
+-- a fact of every time of a list
+unfoldable pub Every : (Float → Type 0) → List Float → Type 0
+Every fact [] = Unit
+Every fact (t ∷ ts) = fact t × Every fact ts
+
+-- times in time, none before the one before it, the first not before t
+unfoldable pub Rising : Limits → Float → List Float → Type 0
+Rising l t [] = Unit
+Rising l t (u ∷ us) = T (le t u) × InTime l u × Rising l u us
+
+-- a refused call: kind 4, no time, zero counts
+pub record Refusal (kind : ℕ) (time : Float) (probes halvings : ℕ) : Type 0 where
+  pub is-kind : kind ≡ 4
+  pub no-time : time ≡ zero32
+  pub no-probes : probes ≡ 0
+  pub no-halvings : halvings ≡ 0
+
+module _ (x₀ dx : List (List Float)) (split : ℕ) (l : Limits) where
+  -- whether the computed squared distance at a time exceeds the squared park distance
+  abbrev pub isFar : Float → Bool
+  isFar t = above x₀ dx split (squaredPark l) t
+
+  -- the times that the definition's walk probes
+  abbrev pub probed : List Float
+  probed = safeWalk x₀ dx split l .probed
+
+  -- not refused: no step goes back in time, and no squared distance from 0 to the time limit is NaN
+  pub record Steady : Type 0 where
+    pub rising : Rising l zero32 probed
+    pub start-number : T (not (isNan (firstSquared x₀ dx split l)))
+    pub number-at : (t : Float) → T (le zero32 t) → T (le t (l .«max_t»))
+        → T (not (isNan (squaredAt x₀ dx split t)))
+
+  -- touching: at the start it is at most the squared offset, or just the squared park distance
+  pub record Touched (t : Float) : Type 0 where
+    pub is-zero : t ≡ zero32
+    pub close : touches x₀ dx split l ≡ true
+
+  -- contact: it exceeds it at the time, and at the next f32 time, within the limit, it does not
+  pub record Stopped (t : Float) : Type 0 where
+    pub far : isFar t ≡ true
+    pub next-near : isFar (nextUp t) ≡ false
+    pub next-in-time : T (le (nextUp t) (l .«max_t»))
+
+  -- clear: it exceeded it at the start and at every probe made
+  pub record Passed (t : Float) : Type 0 where
+    pub is-limit : t ≡ written (l .«max_t»)
+    pub start-far : lt (squaredPark l) (firstSquared x₀ dx split l) ≡ true
+    pub probes-far : Every (λ (u : Float). isFar u ≡ true) probed
+
+  -- budget: it exceeds it at the time, and every probe allowed was made
+  pub record Paused (t : Float) (probes : ℕ) : Type 0 where
+    pub far : isFar t ≡ true
+    pub all-made : probes ≡ allowance
+
+  -- the numbers of an answer; kinds are 0 touching, 1 contact, 2 clear, 3 budget, 4 refused
+  pub record Promised (refusal kind : ℕ) (time : Float) (probes halvings : ℕ) : Type 0 where
+    pub number : refusal ≡ safeRefusal x₀ dx split l
+    pub probes-counted : probes ≡ length probed
+    pub halvings-counted : halvings ≡ safeWalk x₀ dx split l .halvings
+    pub few-probes : probes ≤ allowance
+    pub few-halvings : halvings ≤ 256
+    pub refused : (refusal ≡ 0 → ⊥) → Refusal kind time probes halvings
+    pub answered : refusal ≡ 0 → kind ≤ 3
+    pub timed : refusal ≡ 0 → InTime l time
+    pub steady : refusal ≡ 0 → Steady
+    pub touching : kind ≡ 0 → Touched time
+    pub contact : kind ≡ 1 → Stopped time
+    pub clear : kind ≡ 2 → Passed time
+    pub budget : kind ≡ 3 → Paused time probes
+
+  -- of an answer as the library gives it
+  abbrev pub Promises : SafeTime → Type 0
+  Promises s =
+      Promised (refusalOf (s .answer)) (kindOf (s .answer)) (timeOf (s .answer)) (s .probes) (s .halvings)

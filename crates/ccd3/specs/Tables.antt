@@ -4,9 +4,8 @@ use mathlib.Core.Bool.{cond}
 use mathlib.Core.List.{List, [], _∷_}
 use lib.Ieee.{Float, lt, le}
 use Rattle.number.specs.Number.{_⊖_, _⊗_, _⊘_, zero32, largest32, smaller, larger}
-use Rattle.geometry.specs.Vec3.{at, col}
+use Rattle.geometry.specs.Geometry.{at, col, Cross}
 use Rattle.ccd3.specs.declared.Aim.{Aim}
-use Rattle.ccd3.specs.Directional.{Cross}
 
 -- the time of a pair that closes in from `reach` at `speed`; of one that does not, the largest f32
 unfoldable pub timeLeft : Aim → Float → Float → Float

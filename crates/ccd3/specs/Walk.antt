@@ -1,20 +1,47 @@
 -- The walk from a start that is apart: steps that are safe by the distance, a probe at the end of each, and a halving
--- once a probe is not apart any more (docs/01-scope.md, "The walk"). Definitions only.
+-- once a probe is not apart any more; and what a call answers (docs/01-scope.md, "The walk", "Refusal numbers").
+-- Definitions only.
 use Prim.Native.Nat.{ℕ, zero, suc, _+_}
+use lib.Ieee.{Float, lt}
+use Rattle.number.specs.Number.{zero32, larger}
+use Rattle.ccd3.specs.declared.Answer.{Answer}
+use Rattle.ccd3.specs.declared.Answer.the-variants.{Touching, Contact, Clear, Budget, Refused}
 use mathlib.Core.Bool.{Bool, true, false}
 use mathlib.Core.List.{List, [], _∷_}
 use lib.ListN.{length}
-use lib.Ieee.{Float, lt}
-use Rattle.number.specs.Number.{zero32, larger}
 use Rattle.number.specs.Halving.{Halved, halve}
-use Rattle.geometry.specs.Columns.{moved}
-use Rattle.distance.specs.Nearest.{nearestOf}
+use Rattle.geometry.specs.Geometry.{moved}
+use Rattle.distance.specs.Distance.{nearestOf}
 use Rattle.admission.specs.declared.Limits.{Limits}
-use Rattle.ccd3.specs.declared.Answer.{Answer}
-use Rattle.ccd3.specs.declared.Answer.the-variants.{Contact, Clear, Budget}
 use Rattle.ccd3.specs.declared.SafeTime.{SafeTime}
 use Rattle.ccd3.specs.Step.{Visit, step, next}
 
+-- ---- the answer, by number and value for each case
+-- the refusal's number; 0 where there is none
+unfoldable pub refusalOf : Answer → ℕ
+refusalOf (Touching t) = 0
+refusalOf (Contact t) = 0
+refusalOf (Clear t) = 0
+refusalOf (Budget t) = 0
+refusalOf (Refused n) = n
+
+-- the kind's number
+unfoldable pub kindOf : Answer → ℕ
+kindOf (Touching t) = 0
+kindOf (Contact t) = 1
+kindOf (Clear t) = 2
+kindOf (Budget t) = 3
+kindOf (Refused n) = 4
+
+-- the time; a refusal has none
+unfoldable pub timeOf : Answer → Float
+timeOf (Touching t) = t
+timeOf (Contact t) = t
+timeOf (Clear t) = t
+timeOf (Budget t) = t
+timeOf (Refused n) = zero32
+
+-- ---- the walk
 -- a time as it is answered: a zero with the sign plus
 abbrev pub written : Float → Float
 written t = larger zero32 t

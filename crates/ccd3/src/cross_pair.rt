@@ -1,8 +1,8 @@
 // What one cross pair leaves of the directional step: its gap along the direction, and its time (ccd3.rs: the body of
 // the loops of `directional_advance`; docs/01-scope.md, "The directional step").
 ghost use mathlib.Core.Path.{_≡_};
-ghost use Rattle.geometry.specs.Vec3 as Vec3;
-ghost use Rattle.ccd3.specs.Directional as Def;
+ghost use Rattle.geometry.specs.Geometry as Vec3;
+ghost use Rattle.ccd3.specs.Step as Def;
 ghost use Rattle.ccd3.specs.Tables as Tables;
 use crate::Aim;
 use geometry::vec3::dot;

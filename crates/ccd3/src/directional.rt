@@ -2,7 +2,8 @@
 ghost use mathlib.Core.Path.{_≡_};
 ghost use Prim.Native.Nat.{_≤_};
 ghost use Rattle.number.specs.Number.{largest32};
-ghost use Rattle.ccd3.specs.Directional as Def;
+ghost use Rattle.geometry.specs.Geometry.{crossPairs};
+ghost use Rattle.ccd3.specs.Step as Def;
 ghost use Rattle.ccd3.specs.Tables as Tables;
 use crate::Aim;
 use crate::cross_pair::LARGEST;
@@ -14,7 +15,7 @@ use number::order::smaller;
 // pair leaves. The first pair that is not beyond dip ends both loops at once with step 0.
 fn over_sides(reach: [[f32; 4]; 3], time: [[f32; 4]; 3], split: usize, dip: f32) -> f32
     requires { ⌜ split ≤ 3 ⌝ }
-    ensures { λ r. ⌜ r ≡ Tables.leastIn reach time dip (Def.crossPairs split) largest32 ⌝ }
+    ensures { λ r. ⌜ r ≡ Tables.leastIn reach time dip (crossPairs split) largest32 ⌝ }
 {
     let mut step = LARGEST;
     'sides: for i in 0..split {
@@ -34,7 +35,7 @@ fn over_sides(reach: [[f32; 4]; 3], time: [[f32; 4]; 3], split: usize, dip: f32)
 // Of two edges. What each pair of columns leaves is put into tables before the first test, so that a compiler computes
 // all of it side by side; places of no pair are zero and never read.
 fn between_edges(x: [[f32; 3]; 4], dx: [[f32; 3]; 4], a: Aim) -> f32
-    ensures { λ r. ⌜ r ≡ Def.leastOver a x dx (Def.crossPairs 2) largest32 ⌝ }
+    ensures { λ r. ⌜ r ≡ Def.leastOver a x dx (crossPairs 2) largest32 ⌝ }
 {
     let x0 = x[0];
     let x1 = x[1];
@@ -67,7 +68,7 @@ fn between_edges(x: [[f32; 3]; 4], dx: [[f32; 3]; 4], a: Aim) -> f32
 
 // Of a face and a vertex.
 fn face_to_vertex(x: [[f32; 3]; 4], dx: [[f32; 3]; 4], a: Aim) -> f32
-    ensures { λ r. ⌜ r ≡ Def.leastOver a x dx (Def.crossPairs 3) largest32 ⌝ }
+    ensures { λ r. ⌜ r ≡ Def.leastOver a x dx (crossPairs 3) largest32 ⌝ }
 {
     let x0 = x[0];
     let x1 = x[1];

@@ -3,7 +3,7 @@ ghost use mathlib.Core.Path.{_≡_};
 ghost use Rattle.admission.specs.Admission.{walkRefusal};
 ghost use Rattle.ccd3.specs.Walk.{told};
 ghost use Rattle.ccd3.specs.SafeTime as Def;
-ghost use Rattle.ccd3.specs.Promise.{Promises};
+ghost use Rattle.ccd3.specs.SafeTime.{Promises};
 use crate::Answer;
 use crate::SafeTime;
 use crate::walk::walk;

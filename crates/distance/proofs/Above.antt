@@ -10,7 +10,7 @@ use Rattle.number.proofs.Units.Compared.{same-test}
 use Rattle.number.proofs.NoNan.{no-nan-lt}
 use Rattle.number.proofs.Comparing.{not-lt-le}
 use Rattle.distance.specs.declared.candidate.Nearest.{Nearest}
-use Rattle.distance.specs.Candidate.{Candidates, nearer, nearestFrom, firstSmallest, only}
+use Rattle.distance.specs.Distance.{Candidates, nearer, nearestFrom, firstSmallest, only}
 use Rattle.distance.proofs.Choice.{nearestBack, Found}
 use Rattle.number.proofs.Transitive.{lt-trans, le-lt-trans, lt-not-le}
 

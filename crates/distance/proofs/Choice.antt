@@ -7,7 +7,7 @@ use mathlib.Core.List.{List, [], _∷_}
 use lib.Ieee.{Float, lt}
 use Rattle.number.specs.Number.{smaller}
 use Rattle.distance.specs.declared.candidate.Nearest.{Nearest}
-use Rattle.distance.specs.Candidate.{Candidates, nearer, nearestFrom, firstSmallest, only}
+use Rattle.distance.specs.Distance.{Candidates, nearer, nearestFrom, firstSmallest, only}
 
 -- the nearer of a and b, where m is the squared distance of a
 module _ (a b : Nearest) (m : Float) (isLeast : m ≡ a .squared) where

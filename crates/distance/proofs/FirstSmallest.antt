@@ -12,8 +12,7 @@ use Rattle.number.proofs.NoNan.{no-nan-lt, no-nan-le}
 use Rattle.number.proofs.Comparing.{not-lt-le}
 use Rattle.number.proofs.Transitive.{lt-trans, le-lt-trans, lt-not-le}
 use Rattle.distance.specs.declared.candidate.Nearest.{Nearest}
-use Rattle.distance.specs.Candidate.{nearer, nearestFrom}
-use Rattle.distance.specs.Nearest.{candidatesOf, nearestOf}
+use Rattle.distance.specs.Distance.{nearer, nearestFrom, candidatesOf, nearestOf}
 use Rattle.distance.proofs.Choice.{nearer-takes, nearer-stays}
 use Rattle.distance.proofs.Listed.{listed, Each}
 

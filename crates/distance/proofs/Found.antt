@@ -4,13 +4,10 @@ use mathlib.Core.Path.{_≡_}
 use mathlib.Core.Bool.{Bool}
 use mathlib.Core.List.{List, [], _∷_}
 use lib.Ieee.{Float}
-use Rattle.geometry.specs.Vec3.{minus}
+use Rattle.geometry.specs.Geometry.{minus}
 use Rattle.distance.specs.declared.candidate.Nearest.{Nearest}
 use Rattle.distance.specs.declared.products.Products.{Products}
-use Rattle.distance.specs.Products.{productsOf}
-use Rattle.distance.specs.Candidate.{pointSegment, segmentPoint, nearestFrom}
-use Rattle.distance.specs.EdgeEdge.{edgeProducts, edgesMeet, edgeInterior, edgeEdge}
-use Rattle.distance.specs.FaceVertex.{faceProducts, overFace, faceInterior, faceVertex}
+use Rattle.distance.specs.Distance.{productsOf, pointSegment, segmentPoint, nearestFrom, edgeProducts, edgesMeet, edgeInterior, edgeEdge, faceProducts, overFace, faceInterior, faceVertex}
 use Rattle.distance.proofs.Choice.{nearestBack, Found}
 
 module _ (x0 x1 x2 x3 : List Float) {c0 c1 c2 inner : Nearest} {there : Bool} {p : Products} where

@@ -5,7 +5,7 @@ use mathlib.Core.List.{List, [], _∷_}
 use lib.Dec.{T}
 use lib.Ieee.{lt}
 use Rattle.distance.specs.declared.candidate.Nearest.{Nearest}
-use Rattle.distance.specs.Candidate.{Candidates, only, nearer, nearestFrom, firstSmallest}
+use Rattle.distance.specs.Distance.{Candidates, only, nearer, nearestFrom, firstSmallest}
 
 -- the candidates of a pair as one list
 abbrev pub listed : Candidates → List Nearest

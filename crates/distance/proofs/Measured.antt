@@ -7,23 +7,15 @@ use mathlib.Core.List.{List}
 use lib.Dec.{T, eqb, lit<}
 use lib.Ieee.{Float, binary32, lt, le, fits}
 use lib.Ieee.Fits.{and-i, and-l, and-r, add-fits, div-fits}
-use Rattle.number.specs.Number.{_⊕_, zero32, one32}
-use Rattle.number.specs.Range.{zeroToOne}
+use Rattle.number.specs.Number.{_⊕_, zero32, one32, zeroToOne}
 use Rattle.number.proofs.Units.{plus}
 use Rattle.number.proofs.Within.{Within}
 use Rattle.number.proofs.Ranges.{zero-to-one}
-use Rattle.geometry.specs.Vec3.{col, minus, along}
-use Rattle.geometry.specs.Edge3.{lerpOf}
-use Rattle.geometry.proofs.Bounds.{VecWithin, PointsWithin, col-within, vec-more}
-use Rattle.geometry.proofs.Bounds.{minus-within, dot-within, along-within, lerp-within}
+use Rattle.geometry.specs.Geometry.{col, minus, along, lerpOf}
+use Rattle.geometry.proofs.Bounds.{VecWithin, PointsWithin, col-within, vec-more, minus-within, dot-within, along-within, lerp-within}
 use Rattle.distance.specs.declared.candidate.Nearest.{Nearest}
 use Rattle.distance.specs.declared.products.Products.{Products}
-use Rattle.distance.specs.Segment.{placeOn}
-use Rattle.distance.specs.Products.{beMinusCd, cdMinusBe, aeMinusBd}
-use Rattle.distance.specs.Candidate.{fromTo, pointSegment, segmentPoint}
-use Rattle.distance.specs.EdgeEdge.{edgeProducts, edgesMeet, edgeInterior, edgeEdge}
-use Rattle.distance.specs.FaceVertex.{faceProducts, overFace, faceInterior, faceVertex}
-use Rattle.distance.specs.Nearest.{candidatesOf, nearestOf}
+use Rattle.distance.specs.Distance.{placeOn, beMinusCd, cdMinusBe, aeMinusBd, fromTo, pointSegment, segmentPoint, edgeProducts, edgesMeet, edgeInterior, edgeEdge, faceProducts, overFace, faceInterior, faceVertex, candidatesOf, nearestOf}
 use Rattle.distance.proofs.Listed.{listed, Each, each-only, smallest-keeps}
 use Rattle.distance.proofs.Weights.{weights-in}
 use Rattle.distance.proofs.Ratios.{square-is-plus, place-within}

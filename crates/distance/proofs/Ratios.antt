@@ -9,17 +9,16 @@ use mathlib.Core.List.{List}
 use lib.Dec.{T, lit<}
 use lib.Ieee.{Float, fin, lt, le, eq, isNan, ofBits}
 use lib.Ieee.Fits.{and-i}
-use Rattle.number.specs.Number.{_⊗_, _⊕_, _⊘_, zero32, one32, clamp}
-use Rattle.number.specs.Range.{zeroToOne}
+use Rattle.number.specs.Number.{_⊗_, _⊕_, _⊘_, zero32, one32, clamp, zeroToOne}
 use Rattle.number.proofs.Units.{plus}
 use Rattle.number.proofs.Comparing.{not-lt-le}
 use Rattle.number.proofs.Choice.{clamp-in}
 use Rattle.number.proofs.Within.{Within, within-finite, div-no-nan}
 use Rattle.number.proofs.Ranges.{zero-to-one}
 use Rattle.number.proofs.Signs.{plus-up, square-plus, sum-plus}
-use Rattle.geometry.specs.Vec3.{at, minus, dot}
+use Rattle.geometry.specs.Geometry.{at, minus, dot}
 use Rattle.geometry.proofs.Bounds.{VecWithin, minus-within, dot-within, lerp-within}
-use Rattle.distance.specs.Segment.{ratioAlong, placeOn}
+use Rattle.distance.specs.Distance.{ratioAlong, placeOn}
 use Rattle.number.proofs.Transitive.{lt-not-le}
 
 -- ---- a square of a vector has the sign plus

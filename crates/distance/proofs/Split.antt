@@ -4,11 +4,8 @@ use mathlib.Core.Path.{_≡_}
 use mathlib.Core.List.{List}
 use borrow.Author.Tests.{eq-eqb, ne-eqb}
 use lib.Ieee.{Float}
-use Rattle.geometry.specs.Vec3.{col}
-use Rattle.distance.specs.Candidate.{firstSmallest}
-use Rattle.distance.specs.EdgeEdge.{edgeEdge}
-use Rattle.distance.specs.FaceVertex.{faceVertex}
-use Rattle.distance.specs.Nearest.{candidatesOf, nearestOf}
+use Rattle.geometry.specs.Geometry.{col}
+use Rattle.distance.specs.Distance.{firstSmallest, edgeEdge, faceVertex, candidatesOf, nearestOf}
 
 module _ (split : ℕ) (x : List (List Float)) where
   pub split-two : split ≡ 2 → nearestOf split x ≡ firstSmallest (edgeEdge (col x 0) (col x 1) (col x 2) (col x 3))

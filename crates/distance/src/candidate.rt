@@ -2,7 +2,7 @@
 use super::segment;
 use geometry::vec3;
 ghost use mathlib.Core.Path.{_≡_};
-ghost use Rattle.distance.specs.Candidate as Def;
+ghost use Rattle.distance.specs.Distance as Def;
 
 // A squared distance, the direction from the first side to the second, and which candidate it was.
 pub struct Nearest {

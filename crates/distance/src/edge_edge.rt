@@ -8,8 +8,8 @@ use number::order;
 use number::range;
 ghost use mathlib.Core.Path.{_≡_};
 ghost use lib.Ieee.{lt};
-ghost use Rattle.distance.specs.Candidate.{firstSmallest};
-ghost use Rattle.distance.specs.EdgeEdge as Def;
+ghost use Rattle.distance.specs.Distance.{firstSmallest};
+ghost use Rattle.distance.specs.Distance as Def;
 
 // Whether the interior candidate is there.
 fn edges_meet(p: Products) -> bool

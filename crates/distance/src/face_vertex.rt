@@ -7,8 +7,8 @@ use geometry::vec3;
 use number::order;
 ghost use mathlib.Core.Path.{_≡_};
 ghost use lib.Ieee.{lt};
-ghost use Rattle.distance.specs.Candidate.{firstSmallest};
-ghost use Rattle.distance.specs.FaceVertex as Def;
+ghost use Rattle.distance.specs.Distance.{firstSmallest};
+ghost use Rattle.distance.specs.Distance as Def;
 
 // Whether the interior candidate is there.
 fn over_face(p: Products) -> bool

@@ -4,7 +4,7 @@ use super::edge_edge;
 use super::face_vertex;
 ghost use mathlib.Core.Path.{_≡_};
 ghost use lib.Ieee.{lt};
-ghost use Rattle.distance.specs.Nearest as Def;
+ghost use Rattle.distance.specs.Distance as Def;
 
 // The first smallest candidate: of edge against edge for split 2, of face against vertex for any other.
 pub fn nearest(x: [[f32; 3]; 4], split: usize) -> Nearest

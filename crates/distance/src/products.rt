@@ -2,8 +2,8 @@
 // (docs/01-scope.md, "Our distance rules").
 use geometry::vec3;
 ghost use mathlib.Core.Path.{_≡_};
-ghost use Rattle.geometry.specs.Vec3.{minus};
-ghost use Rattle.distance.specs.Products as Def;
+ghost use Rattle.geometry.specs.Geometry.{minus};
+ghost use Rattle.distance.specs.Distance as Def;
 
 pub(crate) struct Products {
     pub(crate) a: f32,

@@ -3,7 +3,7 @@ use geometry::edge3;
 use geometry::vec3;
 use number::order;
 ghost use mathlib.Core.Path.{_≡_};
-ghost use Rattle.distance.specs.Segment as Def;
+ghost use Rattle.distance.specs.Distance as Def;
 
 // The ratio from q0 along d of the place that is taken as the nearest to p: 0 where d has no length.
 // The quotient is taken before that test, which a compiler can then make without a branch.

@@ -11,9 +11,7 @@ use Rattle.number.specs.Number.{_⊕_, _⊖_, _⊗_}
 use Rattle.number.proofs.Within.{Within, within-more, add-within, sub-within, mul-within}
 use Rattle.number.proofs.Within as W
 use Rattle.number.proofs.Ranges.{bits-within}
-use Rattle.geometry.specs.Vec3.{at, col, vec, minus, dot, along}
-use Rattle.geometry.specs.Edge3.{lerpOf}
-use Rattle.geometry.specs.Columns.{columns, moved, quarter, centre, centred, times, scaled}
+use Rattle.geometry.specs.Geometry.{at, col, vec, minus, dot, along, lerpOf, columns, moved, quarter, centre, centred, times, scaled}
 
 -- each of the three numbers; each number of each of the four columns
 abbrev pub VecWithin : ℕ → List Float → Type 0

@@ -1,6 +1,6 @@
 // The place along a segment (edge3.rs: `lerp`).
 ghost use mathlib.Core.Path.{_≡_};
-ghost use Rattle.geometry.specs.Edge3.{lerpOf};
+ghost use Rattle.geometry.specs.Geometry.{lerpOf};
 
 // p0 + s (p1 - p0)
 pub fn lerp(p0: [f32; 3], p1: [f32; 3], s: f32) -> [f32; 3]

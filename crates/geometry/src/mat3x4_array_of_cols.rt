@@ -1,6 +1,6 @@
 // Four points as a whole (mat3x4_array_of_cols.rs, all of it): moved, centred, scaled.
 ghost use mathlib.Core.Path.{_≡_};
-ghost use Rattle.geometry.specs.Columns as Def;
+ghost use Rattle.geometry.specs.Geometry as Def;
 use super::vec3::along;
 use super::vec3::sub;
 

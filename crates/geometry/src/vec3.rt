@@ -1,6 +1,6 @@
 // Vectors of three numbers (vec3.rs: `sub`, `dot`, `scalar_triple_product`). Sums of three go left to right.
 ghost use mathlib.Core.Path.{_≡_};
-ghost use Rattle.geometry.specs.Vec3 as Def;
+ghost use Rattle.geometry.specs.Geometry as Def;
 
 // a - b
 pub fn sub(a: [f32; 3], b: [f32; 3]) -> [f32; 3]

@@ -2,8 +2,7 @@
 -- Definitions only.
 use Prim.Native.Nat.{ℕ, zero, suc}
 use mathlib.Core.List.{List, [], _++_}
-use Rattle.scene.specs.Layout.{sceneOf}
-use Rattle.scene.specs.Pairs.{timeOf}
+use Rattle.scene.specs.Scene.{sceneOf, timeOf}
 use Rattle.listing.specs.Text.{decimal, line, lineEnd, pairsWord, sceneRefusedWord}
 
 -- the lines of the first k pairs

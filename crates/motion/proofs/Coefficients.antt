@@ -8,19 +8,17 @@ use mathlib.Core.List.{List}
 use Prim.Native.Nat.{ℕ, _<_}
 use lib.Dec.{T, lit≤, lit<}
 use lib.Ieee.{Float, ofBits}
-use Rattle.number.specs.Number.{_⊕_, _⊖_, _⊗_, zero32, one32}
-use Rattle.number.specs.Range.{isFinite}
+use Rattle.number.specs.Number.{_⊕_, _⊖_, _⊗_, zero32, one32, isFinite}
 use Rattle.number.proofs.Within.{Within, within-more, add-within, sub-within, mul-within}
-use Rattle.number.specs.Answer as Answer
+use Rattle.number.specs.Number as Answer
 use Rattle.number.proofs.Answers.{refused, admitted-keeps}
-use Rattle.geometry.specs.Vec3.{at, col, triple}
+use Rattle.geometry.specs.Geometry.{at, col, triple}
 use Rattle.geometry.proofs.Bounds.{VecWithin, minus-within, col-within}
 use Rattle.polynomial_root.specs.declared.answer.Roots.{Roots}
 use Rattle.polynomial_root.specs.declared.cubic.Cubic.{Cubic}
-use Rattle.polynomial_root.specs.Roots as Made
-use Rattle.polynomial_root.specs.Admission.{finiteCubic, allowedCubic, admitted}
+use Rattle.polynomial_root.specs.Quadratic as Made
+use Rattle.polynomial_root.specs.Finder.{finiteCubic, allowedCubic, admitted, cubicRootsInRange}
 use Rattle.polynomial_root.specs.Cubic.{cubicRoots}
-use Rattle.polynomial_root.specs.Called.{cubicRootsInRange}
 use Rattle.admission.specs.Admission.{finitePoints, limitPoints, motionRefusal}
 use Rattle.admission.proofs.Admitted.{within-real, points-within, motion-admits, motion-first}
 use Rattle.motion.specs.Coplanar.{volume, edge, motionCubic, coplanarTimes}

@@ -10,13 +10,12 @@ use mathlib.Core.Bool.{Bool, true, false, not}
 use lib.Dec.{T, ltb→lt, not-T}
 use lib.Ieee.{Float, fin, binary32, up, down, lt, fits, ofBits}
 use lib.Ieee.Bits.{is-true, is-false}
-use Rattle.number.specs.Number.{_⊗_, _⊘_, one32}
-use Rattle.number.specs.Range.{isFinite}
+use Rattle.number.specs.Number.{_⊗_, _⊘_, one32, isFinite}
 use Rattle.number.proofs.Units.{fit}
 use Rattle.number.proofs.Within.{Within}
 use Rattle.number.proofs.Quotients.{eighth-within}
 use Rattle.motion.specs.declared.factors.Factors.{Factors}
-use Rattle.motion.specs.Factors.{eight32, ending, eighths, factorsOf}
+use Rattle.motion.specs.Scaling.{eight32, ending, eighths, factorsOf}
 
 -- n factors of 8 were taken out of a finite number, and f is left
 pub record Left (n : ℕ) (f : Float) : Type 0 where

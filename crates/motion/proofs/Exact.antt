@@ -1,9 +1,7 @@
 -- The product of a scaling's factors is its first factor, bit for bit: eighths of a number above 8 and products by 8
 -- are exact, so what is taken out comes back. Assumes nothing.
 use Prim.Native.Nat.{ℕ, zero, suc, _+_, _-_, _*_, _^_, _≤_, _<_, zero-le}
-use native.Mathlib.Nat.{mul-one, one-mul, mul-assoc, mul-comm, mul-pos, mul-right-comm, lt-of-lt-of-le, le-of-eq}
-use native.Mathlib.Nat.{le-of-lt, not-le-of-lt}
-use native.Mathlib.Nat.{le-trans, lt-of-le-of-lt, mul-le-mul-left}
+use native.Mathlib.Nat.{mul-one, one-mul, mul-assoc, mul-comm, mul-pos, mul-right-comm, lt-of-lt-of-le, le-of-eq, le-of-lt, not-le-of-lt, le-trans, lt-of-le-of-lt, mul-le-mul-left}
 use native.Mathlib.Omega.{arith}
 use native.Mathlib.Decide.{decLe}
 use mathlib.Core.Path.{_≡_, refl, sym, ap, _∙_, subst}
@@ -12,8 +10,7 @@ use lib.Dec.{T, lit<, lit≤}
 use lib.Pow.{pow-add, pow-pos, pow-mono, pow-lt, shl-lt}
 use lib.Ieee.{Float, fin, binary32, up, down, round, div, lt, fits, ofBits}
 use lib.Ieee.Fits.{mul-fits, down-pos}
-use Rattle.number.specs.Number.{_⊗_, _⊘_, zero32, one32}
-use Rattle.number.specs.Range.{isFinite}
+use Rattle.number.specs.Number.{_⊗_, _⊘_, zero32, one32, isFinite}
 use Rattle.number.proofs.Rounding.{rnd, Rep, rnd-fix}
 use Rattle.number.proofs.Units.{Top, plus, of-float, same-float}
 use Rattle.number.proofs.Units.Compared.{L, Is, lt-says}
@@ -22,7 +19,7 @@ use Rattle.number.proofs.Products.{mul-is}
 use Rattle.number.proofs.Comparing.{lt-le}
 use Rattle.number.proofs.Finite.{is-finite}
 use Rattle.motion.specs.declared.factors.Factors.{Factors}
-use Rattle.motion.specs.Factors.{eight32, eighths, factorsOf}
+use Rattle.motion.specs.Scaling.{eight32, eighths, factorsOf}
 use Rattle.motion.proofs.Eighths.{eighths-turn, eighths-stop}
 
 -- a positive number of units has the sign plus

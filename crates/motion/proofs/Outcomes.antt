@@ -7,13 +7,11 @@ use mathlib.Core.Bool.{Bool, true, false}
 use lib.Ieee.{Float}
 use borrow.Author.Tests.{eq-eqb, ne-eqb}
 use Rattle.number.specs.declared.answer.Answered.the-variants.{Value}
-use Rattle.number.specs.Answer.{answered}
+use Rattle.number.specs.Number.{answered}
 use Rattle.motion.specs.declared.record.Pair.{Pair}
 use Rattle.motion.specs.declared.factors.Factors.{Factors}
 use Rattle.motion.specs.declared.scaling.Outcome.{Outcome}
-use Rattle.motion.specs.Factors.{usable, factorsOf}
-use Rattle.motion.specs.Scaling.{firstFactor, factorsFor, scaledWith, scaledPair, finitePair}
-use Rattle.motion.specs.Scaling.{pairRefusal, scalingRefusal, leaves, refusedBy, outcome}
+use Rattle.motion.specs.Scaling.{usable, factorsOf, firstFactor, factorsFor, scaledWith, scaledPair, finitePair, pairRefusal, scalingRefusal, leaves, refusedBy, outcome}
 
 module _ (p : Pair) (t : Float) where
   refused-by : (n : ℕ) → scalingRefusal p t ≡ n → (n ≡ 0 → ⊥) → refusedBy p n ≡ outcome p t

@@ -4,8 +4,7 @@ use mathlib.Core.Path.{sym, subst}
 use mathlib.Core.Bool.{Bool, true, false, cond, _&&_}
 use lib.Dec.{eqb}
 use lib.Ieee.{Float, lt, le, eq}
-use Rattle.number.specs.Number.{_⊖_, _⊗_, _⊘_, zero32, size, smaller, larger}
-use Rattle.number.specs.Range.{between}
+use Rattle.number.specs.Number.{_⊖_, _⊗_, _⊘_, zero32, size, smaller, larger, between}
 use Rattle.polynomial_root.specs.declared.answer.Roots.{Roots}
 use Rattle.polynomial_root.specs.declared.cubic.Cubic.{Cubic}
 use Rattle.polynomial_root.specs.declared.newton.Found.{Found}
@@ -13,12 +12,8 @@ use Rattle.polynomial_root.specs.declared.newton.Found.the-variants.{Root, Noth
 use Rattle.polynomial_root.specs.declared.quadratic.Solved.{Solved}
 use Rattle.polynomial_root.specs.declared.quadratic.Solved.the-variants.{Neither, Both}
 use Rattle.polynomial_root.specs.declared.span.End.{End}
-use Rattle.polynomial_root.specs.Roots.{none, refused, push}
-use Rattle.polynomial_root.specs.Quadratic.{two32, solved}
-use Rattle.polynomial_root.specs.Newton.{three32, valueAt, stepped, flat, descend}
-use Rattle.polynomial_root.specs.Spans.{endAt, oneSided, bothZero, secant, started, spanRoot}
-use Rattle.polynomial_root.specs.Lower.{vanishes, constantRoots, opposite, linearRoots, keep, keptRoots, lowerRoots}
-use Rattle.polynomial_root.specs.Cubic.{joined, after, start, firstSpan, middleSpan, lastSpan, spanRoots, cubicRoots}
+use Rattle.polynomial_root.specs.Quadratic.{none, refused, push, two32, solved}
+use Rattle.polynomial_root.specs.Cubic.{three32, valueAt, stepped, flat, descend, endAt, oneSided, bothZero, secant, started, spanRoot, vanishes, constantRoots, opposite, linearRoots, keep, keptRoots, lowerRoots, joined, after, start, firstSpan, middleSpan, lastSpan, spanRoots, cubicRoots}
 use Rattle.polynomial_root.proofs.Places.{push-refusal}
 
 -- a property of the number 0, for no refusal, and of 6, 7 and 8

@@ -8,15 +8,11 @@ use lib.Dec.{T, eqb}
 use lib.Ieee.{Float, binary32, lt, fits, ofBits}
 use lib.Ieee.Fits.{and-l, and-r, div-fits}
 use borrow.Author.Tests.{eqb-true, eqb-false}
-use Rattle.number.specs.Number.{zero32}
-use Rattle.number.specs.Range.{isFinite}
+use Rattle.number.specs.Number.{zero32, isFinite, admitted}
 use Rattle.number.specs.declared.answer.Answered.{Answered}
-use Rattle.number.specs.Answer.{admitted}
 use Rattle.number.proofs.Answers.{taken, refused, clauses}
 use Rattle.motion.specs.declared.record.Pair.{Pair}
-use Rattle.motion.specs.Factors.{maxEntry, usable}
-use Rattle.motion.specs.Scaling.{firstFactor, factorsFor, scaledPair, finitePair, pairRefusal}
-use Rattle.motion.specs.Scaling.{scalingRefusal, scalingOf, leaves, Scales}
+use Rattle.motion.specs.Scaling.{maxEntry, usable, firstFactor, factorsFor, scaledPair, finitePair, pairRefusal, scalingRefusal, scalingOf, leaves, Scales}
 use Rattle.motion.proofs.Eighths.{Ended, factors-end}
 use Rattle.motion.proofs.Exact.{product-exact}
 

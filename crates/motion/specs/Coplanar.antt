@@ -3,14 +3,13 @@
 use Prim.Native.Nat.{ℕ}
 use mathlib.Core.List.{List}
 use lib.Ieee.{Float}
-use Rattle.number.specs.Number.{_⊕_, zero32, one32}
-use Rattle.number.specs.Answer.{admitted}
-use Rattle.geometry.specs.Vec3.{col, minus, triple}
+use Rattle.number.specs.Number.{_⊕_, zero32, one32, admitted}
+use Rattle.geometry.specs.Geometry.{col, minus, triple}
 use Rattle.polynomial_root.specs.declared.answer.Roots.{Roots}
 use Rattle.polynomial_root.specs.declared.cubic.Cubic.{Cubic}
-use Rattle.polynomial_root.specs.Newton.{cubicOf}
-use Rattle.polynomial_root.specs.Roots.{refused}
-use Rattle.polynomial_root.specs.Called.{cubicRootsInRange}
+use Rattle.polynomial_root.specs.Cubic.{cubicOf}
+use Rattle.polynomial_root.specs.Quadratic.{refused}
+use Rattle.polynomial_root.specs.Finder.{cubicRootsInRange}
 use Rattle.admission.specs.Admission.{motionRefusal}
 
 -- the volume spanned by three edges x1, x2, x3 that move by v1, v2, v3, as a cubic of the time

@@ -1,4 +1,3 @@
 -- What the contracts of `motion` cite. Definitions only.
-pub mod Factors
 pub mod Scaling
 pub mod Coplanar

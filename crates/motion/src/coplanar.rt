@@ -5,7 +5,7 @@ ghost use mathlib.Core.Logic.{_↔_};
 ghost use mathlib.Core.Bool.{not, _&&_};
 ghost use lib.Dec.{T};
 ghost use Rattle.number.specs.Number.{one32};
-ghost use Rattle.polynomial_root.specs.Promises.{Tidy, InRange};
+ghost use Rattle.polynomial_root.specs.Finder.{Tidy, InRange};
 ghost use Rattle.admission.specs.Admission.{finitePoints};
 ghost use Rattle.motion.specs.Coplanar as Def;
 use geometry::vec3::scalar_triple_product;

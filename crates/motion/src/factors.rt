@@ -2,8 +2,8 @@
 // largest entry of a pair, its first factor taken apart into factors of 8 and a last one, and points times them all.
 ghost use mathlib.Core.Path.{_≡_};
 ghost use mathlib.Core.Bool.{true};
-ghost use Rattle.number.specs.Range.{isFinite};
-ghost use Rattle.motion.specs.Factors as Def;
+ghost use Rattle.number.specs.Number.{isFinite};
+ghost use Rattle.motion.specs.Scaling as Def;
 use geometry::mat3x4_array_of_cols as columns;
 use number::order;
 use number::range;

@@ -6,10 +6,9 @@ use mathlib.Core.Bool.{Bool, true, false, cond}
 use lib.Dec.{eqb}
 use lib.Ieee.{Float}
 use borrow.Author.Tests.{eq-eqb, ne-eqb, eqb-true}
-use Rattle.number.specs.Number.{zero32}
+use Rattle.number.specs.Number.{zero32, refusalOf, valueOf, admitted, answered}
 use Rattle.number.specs.declared.answer.Answered.{Answered}
 use Rattle.number.specs.declared.answer.Answered.the-variants.{Value, Refused}
-use Rattle.number.specs.Answer.{refusalOf, valueOf, admitted, answered}
 
 -- once a refusal number has been tested: what an admitted call gives, and what a refused one does
 module _ {A : Type 0} (given other : A) where

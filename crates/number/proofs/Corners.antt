@@ -5,8 +5,7 @@ use mathlib.Core.Path.{_≡_, refl}
 use lib.Ieee.{binary32, lt, ofBits}
 use Rattle.number.specs.declared.answer.Answered.{Answered}
 use Rattle.number.specs.declared.answer.Answered.the-variants.{Value}
-use Rattle.number.specs.Range.{isFinite}
-use Rattle.number.specs.Answer.{answered}
+use Rattle.number.specs.Number.{isFinite, answered}
 use Rattle.number.specs.Root.{rootOf, rootRefusal}
 
 -- what is answered to the pattern of an argument

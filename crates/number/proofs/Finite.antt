@@ -10,8 +10,7 @@ use lib.Ieee.{Float, nan, inf, fin, binary32, neg, le, fits, toBits, ofBits}
 use lib.Ieee.Bits.{is-true}
 use lib.Ieee.Fits.{and-i}
 use lib.Ieee.Scale.{finite}
-use Rattle.number.specs.Number.{largest32}
-use Rattle.number.specs.Range.{isFinite, between}
+use Rattle.number.specs.Number.{largest32, isFinite, between}
 use Rattle.number.proofs.Units.{shift, fin-false, says-le}
 use Rattle.number.proofs.Comparing.{minus-plus, turned}
 use Rattle.number.proofs.Sizes.{fits-plus}

@@ -29,3 +29,4 @@ pub mod Corners
 pub mod Zeros
 pub mod Alike
 pub mod Unmoved
+pub mod Capped

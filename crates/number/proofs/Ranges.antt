@@ -12,9 +12,7 @@ use lib.Pow.{pow-add}
 use lib.Ieee.{Float, inf, fin, binary32, up, down, neg, lt, le, ofBits, nan}
 use lib.Ieee.Fits.{and-l, and-r, down-pos}
 use lib.Ieee.Scale.{finite}
-use Rattle.number.specs.Number.{zero32, one32}
-use Rattle.number.specs.Range.{limit, minusLimit, leastSpeed, mostSpeed, inLimit, zeroToLimit, zeroToOne}
-use Rattle.number.specs.Range.{aboveZeroToOne, speedRange}
+use Rattle.number.specs.Number.{zero32, one32, limit, minusLimit, leastSpeed, mostSpeed, inLimit, zeroToLimit, zeroToOne, aboveZeroToOne, speedRange}
 use Rattle.number.proofs.Units.{L}
 use Rattle.number.proofs.Within.{Within, within-finite, units-within}
 use Rattle.number.proofs.Quotients.{AtLeast}

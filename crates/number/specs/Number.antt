@@ -1,8 +1,11 @@
--- The single-precision numbers: the four operations, each rounded once to nearest even (docs/01-scope.md, opening),
--- and the number helpers (docs/01-scope.md, "Number helpers"). Definitions only.
-use mathlib.Core.Bool.{true, false, cond}
-use Prim.Native.Nat.{zero, suc, _-_}
-use lib.Ieee.{Float, nan, inf, fin, binary32, add, sub, mul, div, lt, toBits, ofBits}
+-- Single-precision numbers (docs/01-scope.md, opening, "Number helpers", "The numbers allowed", "Refusal numbers"): the
+-- four operations, each rounded once to nearest even, the helpers, the ranges, and what a call answers. Definitions only.
+use mathlib.Core.Bool.{true, false, cond, Bool, _&&_}
+use Prim.Native.Nat.{zero, suc, _-_, ℕ}
+use lib.Ieee.{Float, nan, inf, fin, binary32, add, sub, mul, div, lt, toBits, ofBits, le, neg}
+use lib.Dec.{eqb}
+use Rattle.number.specs.declared.answer.Answered.{Answered}
+use Rattle.number.specs.declared.answer.Answered.the-variants.{Value, Refused}
 
 infixl 65 _⊕_ _⊖_
 infixl 70 _⊗_ _⊘_
@@ -57,3 +60,65 @@ nextUp (inf false) = inf false
 nextUp (fin s zero e) = ofBits binary32 1
 nextUp (fin false (suc m) e) = ofBits binary32 (suc (toBits binary32 (fin false (suc m) e)))
 nextUp (fin true (suc m) e) = ofBits binary32 (toBits binary32 (fin true (suc m) e) - 1)
+
+-- ---- the ranges that a number handed over must lie in: both ends are in, minus zero is zero, a NaN lies in none
+-- 2 ^ 20, the size limit, and its negative
+abbrev pub limit : Float
+limit = ofBits binary32 0x4980_0000
+
+abbrev pub minusLimit : Float
+minusLimit = neg limit
+
+-- 2 ^ -60 and 2 ^ 60
+abbrev pub leastSpeed : Float
+leastSpeed = ofBits binary32 0x2180_0000
+
+abbrev pub mostSpeed : Float
+mostSpeed = ofBits binary32 0x5d80_0000
+
+-- neither NaN nor an infinity
+unfoldable pub isFinite : Float → Bool
+isFinite nan = false
+isFinite (inf s) = false
+isFinite (fin s m e) = true
+
+abbrev pub between : Float → Float → Float → Bool
+between low high x = le low x && le x high
+
+-- coordinates, displacements, coefficients: size at most 2 ^ 20
+abbrev pub inLimit : Float → Bool
+inLimit x = between minusLimit limit x
+
+-- offset, clearance, epsilon, a scale factor: 0 to 2 ^ 20
+abbrev pub zeroToLimit : Float → Bool
+zeroToLimit x = between zero32 limit x
+
+-- time limit, a moved point's time, a ratio: 0 to 1
+abbrev pub zeroToOne : Float → Bool
+zeroToOne x = between zero32 one32 x
+
+-- the range of a polynomial: above 0, at most 1
+abbrev pub aboveZeroToOne : Float → Bool
+aboveZeroToOne x = lt zero32 x && le x one32
+
+-- u_max: 2 ^ -60 to 2 ^ 60
+abbrev pub speedRange : Float → Bool
+speedRange x = between leastSpeed mostSpeed x
+
+-- ---- what a call answers that gives one number or refuses
+-- the refusal number, 0 for none; the value, plus zero where refused
+unfoldable pub refusalOf : Answered → ℕ
+refusalOf (Value v) = 0
+refusalOf (Refused n) = n
+
+unfoldable pub valueOf : Answered → Float
+valueOf (Value v) = v
+valueOf (Refused n) = zero32
+
+-- by a refusal number: what an admitted call gives, or what a refused one does
+abbrev pub admitted {ℓ} : {A : Type ℓ} → ℕ → A → A → A
+admitted n given other = cond (eqb n 0) given other
+
+-- by a refusal number: the value, or the refusal
+unfoldable pub answered : ℕ → Float → Answered
+answered n v = admitted n (Value v) (Refused n)

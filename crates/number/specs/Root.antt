@@ -4,8 +4,7 @@ use mathlib.Core.Bool.{Bool, cond, _&&_, _||_}
 use Prim.Native.Nat.{ℕ, zero, suc, _+_, _-_, _*_, _/_, _%_, _^_}
 use lib.Dec.{ltb, eqb}
 use lib.Ieee.{Float, nan, inf, fin, binary32, up, down, lt, ofBits}
-use Rattle.number.specs.Number.{zero32}
-use Rattle.number.specs.Range.{isFinite}
+use Rattle.number.specs.Number.{zero32, isFinite}
 
 -- the size of a finite number, counted in the smallest f32 above zero, 2 ^ -149
 unfoldable pub count : Float → ℕ

@@ -1,7 +1,7 @@
 // The tests of the ranges that a number handed over must lie in (docs/01-scope.md, "The numbers allowed").
 // Both ends are in; minus zero is zero; a NaN lies in none.
 ghost use mathlib.Core.Path.{_≡_};
-ghost use Rattle.number.specs.Range as Def;
+ghost use Rattle.number.specs.Number as Def;
 
 // Neither NaN nor an infinity.
 pub fn is_finite(x: f32) -> bool

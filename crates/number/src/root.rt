@@ -1,7 +1,7 @@
 // The correctly rounded square root (docs/01-scope.md, "Square root and norm").
 ghost use mathlib.Core.Path.{_≡_};
 ghost use Prim.Native.Nat.{_+_, _*_, _^_, _≤_, _<_};
-ghost use Rattle.number.specs.Answer.{refusalOf, valueOf, answered};
+ghost use Rattle.number.specs.Number.{refusalOf, valueOf, answered};
 ghost use Rattle.number.specs.Root as Def;
 ghost use Rattle.number.specs.RootDigits.{RootBits};
 use crate::answer::Answered;

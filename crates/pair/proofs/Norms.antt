@@ -9,10 +9,8 @@ use lib.Dec.{T, lit≤, lit<}
 use lib.Ieee.{Float, binary32, lt, le, fits, ofBits}
 use lib.Ieee.Bits.{ofBits-fits}
 use lib.Ieee.Fits.{add-fits, and-l, and-r}
-use Rattle.number.specs.Number.{_⊖_, zero32, larger}
-use Rattle.number.specs.Range.{isFinite}
+use Rattle.number.specs.Number.{_⊖_, zero32, larger, isFinite, refusalOf, valueOf, admitted, answered}
 use Rattle.number.specs.declared.answer.Answered.{Answered}
-use Rattle.number.specs.Answer.{refusalOf, valueOf, admitted, answered}
 use Rattle.number.specs.Root.{reaches, last, rootOf}
 use Rattle.number.proofs.Units.{plus}
 use Rattle.number.proofs.Within.{Within, sub-within, dot-within}
@@ -21,10 +19,9 @@ use Rattle.number.proofs.Choice.{larger-keeps}
 use Rattle.number.proofs.Answers.{admitted-keeps, clauses}
 use Rattle.number.proofs.SquareRoot.Theorem.{root-from}
 use Rattle.number.proofs.SquareRoot.Bounds.{root-within}
-use Rattle.geometry.specs.Vec3.{at, col}
-use Rattle.pair.specs.Count.{count}
-use Rattle.admission.specs.Admission.{limitPoints, splitRefusal}
+use Rattle.geometry.specs.Geometry.{at, col, count}
 use Rattle.pair.specs.Norm.{gapSquare, against, largestSquare, normOf}
+use Rattle.admission.specs.Admission.{limitPoints, splitRefusal}
 use Rattle.admission.proofs.Admitted.{within-real, points-within, split-admits}
 use Rattle.pair.proofs.Counting.{fold-keeps}
 

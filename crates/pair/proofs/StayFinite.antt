@@ -7,21 +7,14 @@ use mathlib.Core.List.{List}
 use lib.Dec.{T, lit≤, lit<}
 use lib.Ieee.{Float}
 use lib.Ieee.Fits.{and-i}
-use Rattle.number.specs.Number.{zero32}
-use Rattle.number.specs.Range.{isFinite, inLimit}
-use Rattle.number.specs.Answer.{admitted}
+use Rattle.number.specs.Number.{zero32, isFinite, inLimit, admitted}
 use Rattle.number.proofs.Answers.{taken}
 use Rattle.number.proofs.Ranges.{in-limit, zero-to-limit, zero-to-one}
-use Rattle.geometry.specs.Vec3.{at, col, vec}
-use Rattle.geometry.specs.Edge3.{lerpOf}
-use Rattle.geometry.specs.Columns.{moved, centred, scaled}
-use Rattle.geometry.proofs.Bounds.{VecWithin, PointsWithin, col-within, lerp-within}
-use Rattle.geometry.proofs.Bounds.{moved-within, scaled-within, centred-within}
-use Rattle.admission.specs.Admission.{ofThree, ofTwelve, finitePoints}
-use Rattle.admission.specs.Admission.{pointsRefusal, factorRefusal, timeRefusal, ratioRefusal}
+use Rattle.geometry.specs.Geometry.{at, col, vec, lerpOf, moved, centred, scaled}
+use Rattle.geometry.proofs.Bounds.{VecWithin, PointsWithin, col-within, lerp-within, moved-within, scaled-within, centred-within}
+use Rattle.admission.specs.Admission.{ofThree, ofTwelve, finitePoints, pointsRefusal, factorRefusal, timeRefusal, ratioRefusal}
 use Rattle.pair.specs.Points.{placed, movedInto, centredIn, scaledIn}
-use Rattle.admission.proofs.Admitted.{within-real, three-each, points-within}
-use Rattle.admission.proofs.Admitted.{points-admits, factor-admits, time-admits, ratio-admits}
+use Rattle.admission.proofs.Admitted.{within-real, three-each, points-within, points-admits, factor-admits, time-admits, ratio-admits}
 
 -- three numbers, and twelve, are finite if each is within a power of two
 three : (a : ℕ) (v : List Float) → VecWithin a v → T (ofThree isFinite v)

@@ -5,8 +5,7 @@ use mathlib.Core.List.{List, foldl}
 use lib.Ieee.{Float}
 use Rattle.number.specs.Number.{zero32, larger}
 use Rattle.number.specs.Root.{rootOf}
-use Rattle.geometry.specs.Vec3.{col, minus, dot}
-use Rattle.pair.specs.Count.{count}
+use Rattle.geometry.specs.Geometry.{col, minus, dot, count}
 
 -- the squared difference of columns i and j
 unfoldable pub gapSquare : List (List Float) → ℕ → ℕ → Float

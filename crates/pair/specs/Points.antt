@@ -1,14 +1,14 @@
--- The public calls on points (docs/01-scope.md, "What callers hand over, and the numbers allowed", "Refusal numbers";
--- edge3.rs, mat3x4_array_of_cols.rs): what each answers and leaves. Definitions only.
+-- The public calls on four points, and the public distance of a pair: what each answers and leaves (docs/01-scope.md,
+-- "What callers hand over, and the numbers allowed", "Our distance rules", "Refusal numbers"). Definitions only.
 use mathlib.Core.List.{List}
 use lib.Ieee.{Float}
-use Rattle.number.specs.Number.{zero32}
-use Rattle.geometry.specs.Vec3.{vec}
-use Rattle.geometry.specs.Edge3.{lerpOf}
-use Rattle.geometry.specs.Columns.{moved, centred, scaled}
+use Rattle.number.specs.Number.{zero32, admitted}
+use Rattle.geometry.specs.Geometry.{vec, lerpOf, moved, centred, scaled}
 use Rattle.pair.specs.declared.points.Placed.{Placed}
-use Rattle.number.specs.Answer.{admitted}
-use Rattle.admission.specs.Admission.{pointsRefusal, factorRefusal, timeRefusal, ratioRefusal}
+use Rattle.admission.specs.Admission.{pointsRefusal, factorRefusal, timeRefusal, ratioRefusal, splitRefusal}
+use Prim.Native.Nat.{ℕ}
+use Rattle.distance.specs.Distance.{nearestOf}
+use Rattle.pair.specs.declared.separation.Measured.{Measured}
 
 -- the place along a segment; a refused one carries zeros
 unfoldable pub placed : List Float → List Float → Float → Placed
@@ -26,3 +26,20 @@ centredIn x = admitted (pointsRefusal x) (centred x) x
 
 unfoldable pub scaledIn : List (List Float) → Float → List (List Float)
 scaledIn x s = admitted (factorRefusal x s) (scaled x s) x
+
+-- ---- the distance of the two sides
+-- the first smallest candidate's numbers
+abbrev pub foundAt : List (List Float) → ℕ → Measured
+foundAt x split = record {
+  refusal = 0;
+  squared = nearestOf split x .squared;
+  direction = nearestOf split x .direction;
+  candidate = nearestOf split x .candidate;
+}
+
+-- a refused call carries zeros
+abbrev pub refusedBy : ℕ → Measured
+refusedBy n = record { refusal = n; squared = zero32; direction = vec zero32 zero32 zero32; candidate = 0 }
+
+unfoldable pub measured : List (List Float) → ℕ → Measured
+measured x split = admitted (splitRefusal x split) (foundAt x split) (refusedBy (splitRefusal x split))

@@ -3,9 +3,7 @@
 ghost use mathlib.Core.Path.{_≡_};
 ghost use lib.Dec.{T};
 ghost use lib.Ieee.{le};
-ghost use Rattle.number.specs.Number.{zero32};
-ghost use Rattle.number.specs.Range.{isFinite};
-ghost use Rattle.number.specs.Answer.{refusalOf, valueOf, admitted, answered};
+ghost use Rattle.number.specs.Number.{zero32, isFinite, refusalOf, valueOf, admitted, answered};
 ghost use Rattle.admission.specs.Admission.{splitRefusal};
 ghost use Rattle.pair.specs.Norm as Def;
 use geometry::vec3;

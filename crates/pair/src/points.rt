@@ -2,7 +2,7 @@
 // Each refuses by 1 and 2 alone. Points lent to a refused call stay as they were, bit for bit: nothing is stored.
 ghost use mathlib.Core.Path.{_≡_};
 ghost use lib.Dec.{T};
-ghost use Rattle.number.specs.Range.{isFinite};
+ghost use Rattle.number.specs.Number.{isFinite};
 ghost use Rattle.admission.specs.Admission as Adm;
 ghost use Rattle.pair.specs.Points as Def;
 use geometry::edge3;

@@ -1,7 +1,7 @@
 // How far the two sides of a split are apart (docs/01-scope.md, "Our distance rules"): the public call over the crate
 // `distance`. It refuses by 1 and 2 alone.
 ghost use mathlib.Core.Path.{_≡_};
-ghost use Rattle.pair.specs.Separation as Def;
+ghost use Rattle.pair.specs.Points as Def;
 use distance::nearest;
 
 // A squared distance, the direction from the first side to the second, and which candidate was the first smallest; or

@@ -4,11 +4,11 @@ use mathlib.Core.Bool.{Bool, true, false, _&&_}
 use lib.Dec.{T}
 use lib.Ieee.{Float}
 use lib.Ieee.Fits.{and-l, and-r}
-use Rattle.number.specs.Range.{inLimit, zeroToLimit, aboveZeroToOne}
+use Rattle.number.specs.Number.{inLimit, zeroToLimit, aboveZeroToOne}
 use Rattle.number.proofs.Within.{Within}
 use Rattle.number.proofs.Ranges.{in-limit, above-zero-to-one}
-use Rattle.polynomial_root.specs.Roots.{refused}
-use Rattle.polynomial_root.specs.Admission.{allowedQuadratic, allowedCubic, admitted}
+use Rattle.polynomial_root.specs.Quadratic.{refused}
+use Rattle.polynomial_root.specs.Finder.{allowedQuadratic, allowedCubic, admitted}
 use Rattle.polynomial_root.specs.declared.answer.Roots.{Roots}
 use Rattle.polynomial_root.specs.declared.cubic.Cubic.{Cubic}
 use Rattle.polynomial_root.proofs.Spans.{Allowed}

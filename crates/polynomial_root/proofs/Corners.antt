@@ -4,17 +4,12 @@ use Prim.Native.Nat.{ℕ}
 use mathlib.Core.Path.{_≡_, refl}
 use mathlib.Core.List.{[], _∷_}
 use lib.Ieee.{Float, binary32, neg, add, sub, mul, div, lt, le, eq, ofBits}
-use Rattle.number.specs.Number.{zero32, half32, one32, size, smaller, larger, clamp}
-use Rattle.number.specs.Range.{isFinite}
+use Rattle.number.specs.Number.{zero32, half32, one32, size, smaller, larger, clamp, isFinite}
 use Rattle.number.specs.Root.{rootOf}
 use Rattle.number.proofs.Corners.{RootCorners, root-corners}
-use Rattle.polynomial_root.specs.Roots.{none, refused, written, push}
-use Rattle.polynomial_root.specs.Quadratic.{two32, solved}
-use Rattle.polynomial_root.specs.Newton.{three32, cubicOf, descend}
-use Rattle.polynomial_root.specs.Spans.{started, spanRoot}
-use Rattle.polynomial_root.specs.Lower.{linearRoots, keep, keptRoots, lowerRoots}
-use Rattle.polynomial_root.specs.Cubic.{joined, after, firstSpan, middleSpan, lastSpan, spanRoots, cubicRoots}
-use Rattle.polynomial_root.specs.Called.{solvedRoots, quadraticRoot, cubicRootsInRange}
+use Rattle.polynomial_root.specs.Quadratic.{none, refused, written, push, two32, solved}
+use Rattle.polynomial_root.specs.Cubic.{three32, cubicOf, descend, started, spanRoot, linearRoots, keep, keptRoots, lowerRoots, joined, after, firstSpan, middleSpan, lastSpan, spanRoots, cubicRoots}
+use Rattle.polynomial_root.specs.Finder.{solvedRoots, quadraticRoot, cubicRootsInRange}
 use Rattle.polynomial_root.specs.declared.answer.Roots.{Roots}
 
 abbrev found : ℕ → Float → Float → Float → Roots

@@ -5,12 +5,10 @@ use mathlib.Core.Bool.{Bool, true, false, cond}
 use lib.Dec.{eqb}
 use lib.Ieee.{Float}
 use borrow.Author.Tests.{eqb-true}
-use Rattle.number.specs.Number.{zero32}
-use Rattle.number.specs.Range.{between}
-use Rattle.polynomial_root.specs.Roots.{none, written, push}
-use Rattle.polynomial_root.specs.Lower.{keep, keptRoots}
-use Rattle.polynomial_root.specs.Cubic.{joined, after}
-use Rattle.polynomial_root.specs.Called.{solvedRoots}
+use Rattle.number.specs.Number.{zero32, between}
+use Rattle.polynomial_root.specs.Quadratic.{none, written, push}
+use Rattle.polynomial_root.specs.Cubic.{keep, keptRoots, joined, after}
+use Rattle.polynomial_root.specs.Finder.{solvedRoots}
 use Rattle.polynomial_root.specs.declared.answer.Roots.{Roots}
 use Rattle.polynomial_root.specs.declared.newton.Found.{Found}
 use Rattle.polynomial_root.specs.declared.newton.Found.the-variants.{Root, Nothing, Refused}

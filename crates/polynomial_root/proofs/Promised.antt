@@ -10,26 +10,11 @@ use mathlib.Core.List.{[], _∷_}
 use lib.Dec.{T, lit≤}
 use lib.Ieee.{Float, binary32, lt, eq, isNan, fits, ofBits}
 use lib.Ieee.Fits.{add-fits}
-use Rattle.number.specs.Number.{_⊖_, _⊗_, _⊘_, zero32, one32}
-use Rattle.number.specs.Range.{between}
+use Rattle.number.specs.Number.{_⊖_, _⊗_, _⊘_, zero32, one32, between}
 use Rattle.number.proofs.Within.{Within, within-more}
-use Rattle.polynomial_root.specs.Roots.{none, refused, written, push}
-use Rattle.polynomial_root.specs.Quadratic.{two32, solved}
-use Rattle.polynomial_root.specs.Newton.{three32, valueAt}
-use Rattle.polynomial_root.specs.Spans.{bothZero}
-use Rattle.polynomial_root.specs.Lower.{
-  vanishes,
-  constantRoots,
-  opposite,
-  linearRoots,
-  keep,
-  keptRoots,
-  lowerRoots,
-}
-use Rattle.polynomial_root.specs.Cubic.{spanRoots, cubicRoots}
-use Rattle.polynomial_root.specs.Admission.{finiteQuadratic, allowedQuadratic, finiteCubic, allowedCubic}
-use Rattle.polynomial_root.specs.Called.{solvedRoots, quadraticRoot, cubicRootsInRange}
-use Rattle.polynomial_root.specs.Promises.{NoneOrTwo, reach}
+use Rattle.polynomial_root.specs.Quadratic.{none, refused, written, push, two32, solved}
+use Rattle.polynomial_root.specs.Cubic.{three32, valueAt, bothZero, vanishes, constantRoots, opposite, linearRoots, keep, keptRoots, lowerRoots, spanRoots, cubicRoots}
+use Rattle.polynomial_root.specs.Finder.{finiteQuadratic, allowedQuadratic, finiteCubic, allowedCubic, solvedRoots, quadraticRoot, cubicRootsInRange, NoneOrTwo, reach}
 use Rattle.polynomial_root.specs.declared.answer.Roots.{Roots}
 use Rattle.polynomial_root.specs.declared.cubic.Cubic.{Cubic}
 use Rattle.polynomial_root.specs.declared.quadratic.Solved.{Solved}

@@ -6,7 +6,7 @@ use mathlib.Core.Path.{_≡_, refl, sym, ap, _∙_}
 use mathlib.Core.Bool.{Bool, true, false, _&&_}
 use lib.Ieee.{Float, lt, eq}
 use Rattle.number.specs.Number.{_⊖_, _⊘_, zero32, size, clamp}
-use Rattle.polynomial_root.specs.Newton.{valueAt, slopeAt, stepped, flat, descend}
+use Rattle.polynomial_root.specs.Cubic.{valueAt, slopeAt, stepped, flat, descend}
 use Rattle.polynomial_root.specs.declared.cubic.Cubic.{Cubic}
 use Rattle.polynomial_root.specs.declared.newton.Found.the-variants.{Root, Refused}
 

@@ -14,7 +14,7 @@ use Rattle.number.proofs.Units.{none-of}
 use Rattle.number.proofs.Units.Compared.{no-size}
 use Rattle.number.proofs.Comparing.{or-l, le-self}
 use Rattle.number.proofs.Signs.{plus-up}
-use Rattle.polynomial_root.specs.Roots.{written}
+use Rattle.polynomial_root.specs.Quadratic.{written}
 use Rattle.polynomial_root.proofs.Orders.{test-true, tested}
 use Rattle.polynomial_root.proofs.Zeros.{eq-zero, zero-high, zero-low}
 

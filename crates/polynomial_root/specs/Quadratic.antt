@@ -1,12 +1,37 @@
--- The roots of c0 + c1 x + c2 x², for any numbers (docs/01-scope.md, "Roots"; polynomial_root.rs, `quadratic_root`):
--- none or two, the smaller first, a double root twice. Definitions only.
+-- What the root finders answer, and the roots of c0 + c1 x + c2 x² for any numbers (docs/01-scope.md, "Roots";
+-- polynomial_root.rs, `quadratic_root`). Definitions only.
+use Prim.Native.Nat.{ℕ, _+_}
 use mathlib.Core.Bool.{cond}
-use lib.Ieee.{Float, binary32, neg, lt, eq, ofBits}
-use Rattle.number.specs.Number.{_⊕_, _⊖_, _⊗_, _⊘_, zero32, one32}
+use mathlib.Core.List.{[], _∷_}
+use lib.Dec.{ltb}
+use lib.ListN.{set}
+use lib.Ieee.{Float, eq, binary32, neg, lt, ofBits}
+use Rattle.number.specs.Number.{zero32, _⊕_, _⊖_, _⊗_, _⊘_, one32}
+use Rattle.polynomial_root.specs.declared.answer.Roots.{Roots}
 use Rattle.number.specs.Root.{rootOf}
 use Rattle.polynomial_root.specs.declared.quadratic.Solved.{Solved}
 use Rattle.polynomial_root.specs.declared.quadratic.Solved.the-variants.{Neither, Both}
 
+-- ---- at most three roots and how many there are, unused places zero; or a refusal number with no root
+-- no root, with a refusal number; 0 is none
+abbrev pub refused : ℕ → Roots
+refused n = record { refusal = n; count = 0; roots = zero32 ∷ zero32 ∷ zero32 ∷ [] }
+
+abbrev pub none : Roots
+none = refused 0
+
+-- a root as it is answered: a zero of either sign is written plus zero
+unfoldable pub written : Float → Float
+written r = cond (eq r zero32) zero32 r
+
+-- one root more, in the next place; a full answer stands
+unfoldable pub push : Roots → Float → Roots
+push a r =
+    cond (ltb (a .count) 3)
+    (record { refusal = a .refusal; count = a .count + 1; roots = set (a .roots) (a .count) (written r) })
+    a
+
+-- ---- none or two roots, the smaller first, a double root twice
 abbrev pub two32 : Float
 two32 = ofBits binary32 0x4000_0000
 

@@ -9,9 +9,8 @@ mod quadratic;
 mod span;
 
 ghost use mathlib.Core.Path.{_≡_};
-ghost use Rattle.polynomial_root.specs.Newton.{cubicOf};
-ghost use Rattle.polynomial_root.specs.Promises.{Tidy, NoNan, NoneOrTwo, InRange, reach};
-ghost use Rattle.polynomial_root.specs.Called.{quadraticRoot, cubicRootsInRange};
+ghost use Rattle.polynomial_root.specs.Cubic.{cubicOf};
+ghost use Rattle.polynomial_root.specs.Finder.{Tidy, NoNan, NoneOrTwo, InRange, reach, quadraticRoot, cubicRootsInRange};
 use admission::allowed_cubic;
 use admission::allowed_quadratic;
 use admission::finite_cubic;

@@ -1,7 +1,7 @@
 // The roots of a quadratic, for any numbers (polynomial_root.rs, `quadratic_root`).
 ghost use mathlib.Core.Path.{_≡_};
 ghost use Rattle.polynomial_root.specs.Quadratic as Def;
-ghost use Rattle.polynomial_root.specs.Called as Called;
+ghost use Rattle.polynomial_root.specs.Finder as Called;
 use crate::answer::Roots;
 use crate::answer::push;
 use crate::answer::refused;

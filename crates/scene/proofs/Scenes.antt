@@ -7,9 +7,7 @@ use mathlib.Core.List.{List}
 use lib.Dec.{T, leb, eqb, leb→le}
 use lib.ListN.{length}
 use lib.Ieee.Fits.{and-l, and-r}
-use Rattle.scene.specs.Words.{word}
-use Rattle.scene.specs.Layout.{displacementsAt, limitsAt, pointCount, pairCount}
-use Rattle.scene.specs.Layout.{laidOut, arePairs, refused, sceneOf}
+use Rattle.scene.specs.Scene.{word, displacementsAt, limitsAt, pointCount, pairCount, laidOut, arePairs, refused, sceneOf}
 
 laid-few : (s : List ℕ) → laidOut s ≡ true → pairCount s ≤ 1024
 unfolding laidOut

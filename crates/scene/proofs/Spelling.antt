@@ -13,9 +13,7 @@ use lib.Ieee.Fits.{and-l, and-r}
 use lib.Ieee.Bits.{is-true}
 use lib.ListN.{length, getD, take, drop, length-append, length-drop, take-append-drop}
 use lib.Seq.{drop-cons, drop-drop, getD-append-seam, getD-append-add, length-take-le}
-use Rattle.scene.specs.Words.{word}
-use Rattle.scene.specs.Layout.{displacementsAt, pairsAt, limitsAt, pointCount, pairCount}
-use Rattle.scene.specs.Layout.{laidOut, arePairs, refused, sceneOf}
+use Rattle.scene.specs.Scene.{word, displacementsAt, pairsAt, limitsAt, pointCount, pairCount, laidOut, arePairs, refused, sceneOf}
 use Rattle.scene.specs.Spelled.{spell, Spelled, Taken}
 
 -- each element of the list is a byte

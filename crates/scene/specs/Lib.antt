@@ -1,5 +1,3 @@
 -- What the contracts of `scene` cite. Definitions only.
-pub mod Words
-pub mod Layout
-pub mod Pairs
+pub mod Scene
 pub mod Spelled

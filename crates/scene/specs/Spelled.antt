@@ -5,7 +5,7 @@ use mathlib.Core.Bool.{true, false}
 use mathlib.Core.List.{List, [], _∷_, _++_}
 use lib.ListN.{length}
 use Rattle.scene.specs.declared.layout.Scene.{Scene}
-use Rattle.scene.specs.Layout.{arePairs, refused}
+use Rattle.scene.specs.Scene.{arePairs, refused}
 
 -- a count as its four bytes, the least significant first
 unfoldable pub spell : ℕ → List ℕ

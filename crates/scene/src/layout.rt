@@ -2,7 +2,7 @@
 // some pair has a bad kind or point number.
 ghost use mathlib.Core.Path.{_≡_};
 ghost use Prim.Native.Nat.{_<_};
-ghost use Rattle.scene.specs.Layout as Def;
+ghost use Rattle.scene.specs.Scene as Def;
 ghost use Rattle.scene.specs.Spelled.{Taken};
 use crate::places::displacements_at;
 use crate::places::limits_at;

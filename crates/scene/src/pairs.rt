@@ -2,7 +2,7 @@
 // limits, its safe time.
 ghost use mathlib.Core.Path.{_≡_};
 ghost use Prim.Native.Nat.{_<_};
-ghost use Rattle.scene.specs.Pairs as Def;
+ghost use Rattle.scene.specs.Scene as Def;
 use crate::places::displacements_at;
 use crate::places::limits_at;
 use crate::places::pair_at;

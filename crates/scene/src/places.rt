@@ -1,7 +1,7 @@
 // Where the sections of a scene file begin (docs/01-scope.md, "The scene file"), from its counts.
 ghost use mathlib.Core.Path.{_≡_};
 ghost use Prim.Native.Nat.{_<_};
-ghost use Rattle.scene.specs.Layout as Def;
+ghost use Rattle.scene.specs.Scene as Def;
 use crate::words::word;
 
 // The displacements, with their count.

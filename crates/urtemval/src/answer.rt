@@ -1,7 +1,7 @@
 // What the exported functions answer: an enum of the library becomes a record of numbers, in which the refusal's number
 // comes first (0: not refused) and what a refusal does not have is zero.
 ghost use mathlib.Core.Path.{_≡_};
-ghost use Rattle.urtemval.specs.Told as Def;
+ghost use Rattle.urtemval.specs.Face as Def;
 use ccd3::Answer;
 use number::answer::Answered;
 

@@ -2,13 +2,13 @@
 // sides, and scaling (`pair::separation::squared_distance`, `pair::norm::max_relative_norm`,
 // `motion::scaling::normalize_centerized_configuration`).
 ghost use mathlib.Core.Path.{_≡_};
-ghost use Rattle.number.specs.Answer.{answered};
+ghost use Rattle.number.specs.Number.{answered};
 ghost use Rattle.admission.specs.Admission.{splitRefusal};
-ghost use Rattle.pair.specs.Separation.{measured};
+ghost use Rattle.pair.specs.Points.{measured};
 ghost use Rattle.pair.specs.Norm.{normOf};
 ghost use Rattle.motion.specs.Scaling.{scalingOf, leaves};
-ghost use Rattle.urtemval.specs.Told as Told;
-ghost use Rattle.urtemval.specs.Lent.{pairOf};
+ghost use Rattle.urtemval.specs.Face as Told;
+ghost use Rattle.urtemval.specs.Face.{pairOf};
 use crate::answer;
 use crate::answer::Value;
 use motion::record;

@@ -1,12 +1,12 @@
 // The square root, the two root finders, and the times at which a pair's four points lie in one plane
 // (`number::root::square_root`, `polynomial_root`, `motion::coplanar::coplanar_time_mat3x4`).
 ghost use mathlib.Core.Path.{_≡_};
-ghost use Rattle.number.specs.Answer.{answered};
+ghost use Rattle.number.specs.Number.{answered};
 ghost use Rattle.number.specs.Root.{rootOf, rootRefusal};
-ghost use Rattle.polynomial_root.specs.Newton.{cubicOf};
-ghost use Rattle.polynomial_root.specs.Called.{quadraticRoot, cubicRootsInRange};
+ghost use Rattle.polynomial_root.specs.Cubic.{cubicOf};
+ghost use Rattle.polynomial_root.specs.Finder.{quadraticRoot, cubicRootsInRange};
 ghost use Rattle.motion.specs.Coplanar.{coplanarTimes};
-ghost use Rattle.urtemval.specs.Told as Told;
+ghost use Rattle.urtemval.specs.Face as Told;
 use crate::answer;
 use crate::answer::Value;
 use motion::coplanar;

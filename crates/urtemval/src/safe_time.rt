@@ -1,8 +1,7 @@
 // The safe time of a lent pair (`ccd3::safe_time::maximum_safe_time_accurate`).
 ghost use mathlib.Core.Path.{_≡_};
-ghost use Rattle.ccd3.specs.SafeTime.{safeTimeOf};
-ghost use Rattle.ccd3.specs.Promise.{Promised};
-ghost use Rattle.urtemval.specs.Told as Told;
+ghost use Rattle.ccd3.specs.SafeTime.{safeTimeOf, Promised};
+ghost use Rattle.urtemval.specs.Face as Told;
 use crate::answer;
 use crate::answer::SafeTime;
 use admission::Limits;

@@ -7,7 +7,7 @@ use lib.Dec.{T}
 use lib.Ieee.{Float}
 use lib.Ieee.Fits.{and-i, and-l, and-r}
 use borrow.Author.Needs.{needs}
-use Rattle.number.specs.Range.{isFinite, zeroToOne}
+use Rattle.number.specs.Number.{isFinite, zeroToOne}
 use Rattle.admission.specs.Admission.{finitePoints, limitPoints, refusal, timeRefusal}
 use Rattle.admission.proofs.Admitted.{ranged-none, ranged-beyond, pair-real, one-real}
 use Rattle.admission.proofs.admit_time.Statement.{statement}

@@ -9,14 +9,9 @@ use lib.Ieee.{Float, lt}
 use Rattle.number.proofs.Alike.{Alike, lt-alike}
 use Rattle.distance.specs.declared.candidate.Nearest.{Nearest}
 use Rattle.distance.specs.declared.products.Products.{Products}
-use Rattle.distance.specs.Candidate.{Candidates, fromTo, pointSegment, segmentPoint, only, nearer, nearestFrom}
-use Rattle.distance.specs.EdgeEdge.{edgeProducts, edgesMeet, edgeInterior, edgeEdge}
-use Rattle.distance.specs.FaceVertex.{faceProducts, overFace, faceInterior, faceVertex}
-use Rattle.distance.specs.Nearest.{candidatesOf, nearestOf}
-use Rattle.distance.proofs.Alike.Vectors.{AlikeVec, AlikePoints}
-use Rattle.distance.proofs.Alike.Vectors.{minus-alike, along-alike, dot-alike, lerp-alike, place-alike}
-use Rattle.distance.proofs.Alike.Products.{AlikeProducts, products-alike, be-minus-cd, cd-minus-be, ae-minus-bd}
-use Rattle.distance.proofs.Alike.Products.{and-first, edges-meet-same, over-face-same}
+use Rattle.distance.specs.Distance.{Candidates, fromTo, pointSegment, segmentPoint, only, nearer, nearestFrom, edgeProducts, edgesMeet, edgeInterior, edgeEdge, faceProducts, overFace, faceInterior, faceVertex, candidatesOf, nearestOf}
+use Rattle.distance.proofs.Alike.Vectors.{AlikeVec, AlikePoints, minus-alike, along-alike, dot-alike, lerp-alike, place-alike}
+use Rattle.distance.proofs.Alike.Products.{AlikeProducts, products-alike, be-minus-cd, cd-minus-be, ae-minus-bd, and-first, edges-meet-same, over-face-same}
 
 record Near (a b : Nearest) : Type 0 where
   squared-alike : Alike (a .squared) (b .squared)

@@ -4,14 +4,10 @@ use mathlib.Core.Path.{_≡_, refl}
 use mathlib.Core.Bool.{Bool, true, false, _&&_}
 use mathlib.Core.List.{List}
 use lib.Ieee.{Float, lt}
-use Rattle.number.specs.Number.{zero32}
-use Rattle.number.specs.Range.{zeroToOne}
-use Rattle.number.proofs.Alike.{Alike, same, add-alike, sub-alike, mul-alike, div-alike}
-use Rattle.number.proofs.Alike.{no-zero-lt, lt-alike, le-alike}
+use Rattle.number.specs.Number.{zero32, zeroToOne}
+use Rattle.number.proofs.Alike.{Alike, same, add-alike, sub-alike, mul-alike, div-alike, no-zero-lt, lt-alike, le-alike}
 use Rattle.distance.specs.declared.products.Products.{Products}
-use Rattle.distance.specs.Products.{productsOf, beMinusCd, cdMinusBe, aeMinusBd}
-use Rattle.distance.specs.EdgeEdge.{edgesMeet}
-use Rattle.distance.specs.FaceVertex.{overFace}
+use Rattle.distance.specs.Distance.{productsOf, beMinusCd, cdMinusBe, aeMinusBd, edgesMeet, overFace}
 use Rattle.distance.proofs.Alike.Vectors.{AlikeVec, dot-alike}
 
 pub record AlikeProducts (p q : Products) : Type 0 where

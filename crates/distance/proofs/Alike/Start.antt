@@ -11,9 +11,8 @@ use Rattle.number.specs.Number.{_⊕_, _⊗_, zero32}
 use Rattle.number.proofs.Units.{plus}
 use Rattle.number.proofs.Alike.{Alike, plus-same}
 use Rattle.number.proofs.Unmoved.{unmoved-alike}
-use Rattle.geometry.specs.Vec3.{at, col, along}
-use Rattle.geometry.specs.Columns.{moved}
-use Rattle.distance.specs.Nearest.{nearestOf}
+use Rattle.geometry.specs.Geometry.{at, col, along, moved}
+use Rattle.distance.specs.Distance.{nearestOf}
 use Rattle.distance.proofs.Alike.Vectors.{AlikeVec, AlikePoints}
 use Rattle.distance.proofs.Alike.Distance.{nearest-alike}
 

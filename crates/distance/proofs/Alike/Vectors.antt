@@ -2,11 +2,9 @@
 -- on a segment (specs/Segment.antt) keep it. Assumes nothing.
 use mathlib.Core.List.{List}
 use lib.Ieee.{Float}
-use Rattle.number.proofs.Alike.{Alike, same, add-alike, sub-alike, mul-alike, div-alike}
-use Rattle.number.proofs.Alike.{no-zero-eq, eq-alike, cond-alike, clamp-alike}
-use Rattle.geometry.specs.Vec3.{at, col, minus, dot, along}
-use Rattle.geometry.specs.Edge3.{lerpOf}
-use Rattle.distance.specs.Segment.{ratioAlong, placeOn}
+use Rattle.number.proofs.Alike.{Alike, same, add-alike, sub-alike, mul-alike, div-alike, no-zero-eq, eq-alike, cond-alike, clamp-alike}
+use Rattle.geometry.specs.Geometry.{at, col, minus, dot, along, lerpOf}
+use Rattle.distance.specs.Distance.{ratioAlong, placeOn}
 
 pub record AlikeVec (a b : List Float) : Type 0 where
   pub n0 : Alike (at a 0) (at b 0)

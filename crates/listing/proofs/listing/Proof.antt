@@ -4,7 +4,7 @@ use mathlib.Core.Path.{_≡_, refl}
 use mathlib.Core.List.{List, _++_}
 use borrow.Author.Needs.{needs}
 use Rattle.scene.specs.declared.layout.Scene.{Scene}
-use Rattle.scene.specs.Layout.{sceneOf}
+use Rattle.scene.specs.Scene.{sceneOf}
 use Rattle.listing.specs.Listing.{head, lines, refusedLine, listed, listing}
 use Rattle.listing.proofs.Puts.{as-text, whole-text}
 use Rattle.scene.proofs.Scenes.{few-pairs}

@@ -7,7 +7,7 @@ use mathlib.Core.Path.{_≡_, ap}
 use mathlib.Core.List.{List, _++_}
 use borrow.Author.Needs.{needs}
 use Rattle.listing.specs.Text.{Put, line}
-use Rattle.scene.specs.Pairs.{timeOf}
+use Rattle.scene.specs.Scene.{timeOf}
 use Rattle.listing.specs.Listing.{head, lines}
 use Rattle.listing.proofs.Puts.{and-then, as-text, keeps-length, nothing}
 use Rattle.listing.proofs.put_pairs.Statement.{statement}

@@ -3,15 +3,12 @@ use mathlib.Core.Path.{_≡_, sym, ap, _∙_, subst}
 use mathlib.Core.Logic.{inl, inr}
 use mathlib.Core.Bool.{not}
 use Prim.Native.Nat.{ℕ, _+_, _-_, _*_, _/_, _%_, _^_, _≤_, _<_}
-use native.Mathlib.Nat.{le-trans, le-of-eq, lt-of-lt-of-le, lt-of-le-of-lt, lt-irrefl, eq-or-lt-of-le, add-sub-cancel}
-use native.Mathlib.Nat.{add-mul, one-mul, mul-assoc, mul-mul-mul-comm, mul-le-mul-right, mul-lt-mul-of-pos-right}
-use native.Mathlib.Nat.{mul-pos}
+use native.Mathlib.Nat.{le-trans, le-of-eq, lt-of-lt-of-le, lt-of-le-of-lt, lt-irrefl, eq-or-lt-of-le, add-sub-cancel, add-mul, one-mul, mul-assoc, mul-mul-mul-comm, mul-le-mul-right, mul-lt-mul-of-pos-right, mul-pos}
 use native.Mathlib.Omega.{arith}
 use lib.Dec.{T, not-T}
 use lib.Pow.{pow-add, pow-pos}
 use lib.Ieee.{Float, binary32, lt, ofBits}
-use Rattle.number.specs.Number.{zero32}
-use Rattle.number.specs.Range.{isFinite}
+use Rattle.number.specs.Number.{zero32, isFinite}
 use Rattle.number.specs.Root.{count, twiceMiddle, twiceRootSquared, reaches, rootOf}
 use Rattle.number.specs.RootDigits.{RootBits, wholeOf}
 use Rattle.number.proofs.Numbers.{square-mono}

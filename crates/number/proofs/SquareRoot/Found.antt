@@ -9,8 +9,7 @@ use native.Mathlib.Omega.{arith}
 use native.Mathlib.Decide.{decLe}
 use lib.Dec.{T}
 use lib.Ieee.{Float, fin, binary32, lt, fits, ofBits, toBits}
-use Rattle.number.specs.Number.{zero32}
-use Rattle.number.specs.Range.{isFinite}
+use Rattle.number.specs.Number.{zero32, isFinite}
 use Rattle.number.specs.Root.{count, rootOf}
 use Rattle.number.specs.RootDigits.{RootBits, wholeOf}
 use Rattle.number.proofs.Units.{L, shift, fin-false}

@@ -4,16 +4,14 @@ use mathlib.Core.Path.{_≡_, sym, ap, _∙_, subst}
 use mathlib.Core.Logic.{_⊎_, inl, inr}
 use mathlib.Core.Bool.{Bool, true, false, cond, not, _&&_, _||_}
 use Prim.Native.Nat.{ℕ, zero, suc, _+_, _-_, _*_, _/_, _%_, _^_, _≤_, _<_, zero-le}
-use native.Mathlib.Nat.{lt-irrefl, le-of-eq, le-of-lt, lt-of-lt-of-le, lt-of-le-of-lt, lt-of-not-le, eq-or-lt-of-le}
-use native.Mathlib.Nat.{add-lt-add-of-le-of-lt, mul-div-cancel, pow-succ'}
+use native.Mathlib.Nat.{lt-irrefl, le-of-eq, le-of-lt, lt-of-lt-of-le, lt-of-le-of-lt, lt-of-not-le, eq-or-lt-of-le, add-lt-add-of-le-of-lt, mul-div-cancel, pow-succ'}
 use native.Mathlib.Omega.{arith}
 use native.Mathlib.Decide.{decLe}
 use lib.Dec.{T, ltb, eqb, ltb→lt, lt→ltb, eqb→eq, not-T, T-not}
 use lib.Ieee.{Float, fin, binary32, down, lt, ofBits}
 use lib.Ieee.Bits.{is-true, is-false}
 use lib.Ieee.Fits.{and-i, and-l, and-r, eq→eqb, down-pos}
-use Rattle.number.specs.Number.{zero32}
-use Rattle.number.specs.Range.{isFinite}
+use Rattle.number.specs.Number.{zero32, isFinite}
 use Rattle.number.specs.Root.{count, twiceMiddle, twiceRootSquared, reaches, last, rootOf}
 use Rattle.number.proofs.Numbers.{le-of-not-lt, square-mono}
 use Rattle.number.proofs.Units.{Is, size-is}

@@ -6,11 +6,9 @@ use mathlib.Core.Bool.{true}
 use lib.Dec.{T}
 use lib.Ieee.{Float, binary32, fits}
 use borrow.Author.Tests.{not-true, not-false}
-use Rattle.number.specs.Number.{zero32}
-use Rattle.number.specs.Range.{between}
-use Rattle.polynomial_root.specs.Newton.{cubicOf}
-use Rattle.polynomial_root.specs.Called.{cubicRootsInRange}
-use Rattle.polynomial_root.specs.Promises.{Tidy, InRange, reach}
+use Rattle.number.specs.Number.{zero32, between}
+use Rattle.polynomial_root.specs.Cubic.{cubicOf}
+use Rattle.polynomial_root.specs.Finder.{cubicRootsInRange, Tidy, InRange, reach}
 use Rattle.polynomial_root.specs.declared.answer.Roots.{Roots}
 use Rattle.polynomial_root.proofs.Orders.{test-true}
 use Rattle.polynomial_root.proofs.Places.{Holds}

@@ -4,8 +4,7 @@ use mathlib.Core.Path.{_≡_, _∙_, sym, subst}
 use mathlib.Core.Bool.{true}
 use lib.Ieee.{Float, binary32, fits}
 use borrow.Author.Tests.{not-true, not-false}
-use Rattle.polynomial_root.specs.Called.{quadraticRoot}
-use Rattle.polynomial_root.specs.Promises.{Tidy, NoNan, NoneOrTwo}
+use Rattle.polynomial_root.specs.Finder.{quadraticRoot, Tidy, NoNan, NoneOrTwo}
 use Rattle.polynomial_root.specs.declared.answer.Roots.{Roots}
 use Rattle.polynomial_root.proofs.Orders.{test-true}
 use Rattle.polynomial_root.proofs.Promised.{Quadratic, quadratic-promises}

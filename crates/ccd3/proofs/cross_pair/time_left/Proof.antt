@@ -1,7 +1,7 @@
 -- `ccd3::cross_pair::time_left` meets its contract, by either way through its test. Assumes nothing.
 use borrow.Author.Needs.{needs}
 use mathlib.Core.Path.{_≡_, ap, _∙_}
-use Rattle.geometry.specs.Vec3.{dot, minus}
+use Rattle.geometry.specs.Geometry.{dot, minus}
 use Rattle.ccd3.specs.Tables.{timeLeft}
 use Rattle.ccd3.proofs.cross_pair.time_left.Statement.{statement}
 use Rattle.ccd3.proofs.cross_pair.time_left.Tie as tie

@@ -2,13 +2,13 @@
 use borrow.Author.Needs.{needs}
 use mathlib.Core.Path.{_∙_}
 use mathlib.Core.List.{flatMap}
-use Rattle.ccd3.specs.Directional.{columns, crossPairs}
-use Rattle.ccd3.proofs.CrossPairs.{Tabled, tables-give}
+use Rattle.geometry.specs.Geometry.{count, crossPairs}
+use Rattle.ccd3.proofs.Tables.{Tabled, tables-give}
 use Rattle.ccd3.proofs.directional.face_to_vertex.Statement.{statement}
 use Rattle.ccd3.proofs.directional.face_to_vertex.Tie as tie
 
 returns : tie.Need-returns
-unfolding columns flatMap crossPairs Tabled
+unfolding count flatMap crossPairs Tabled
 returns c =
     let t23 = c .before .before in
     let t13 = t23 .before in

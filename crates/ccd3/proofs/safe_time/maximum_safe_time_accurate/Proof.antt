@@ -8,8 +8,7 @@ use Rattle.admission.proofs.Limits.{the-type}
 use Rattle.admission.proofs.Limits.Laws.{the-laws}
 use Rattle.ccd3.specs.declared.SafeTime.{SafeTime}
 use Rattle.ccd3.specs.Walk.{told}
-use Rattle.ccd3.specs.SafeTime.{safeTimeOf}
-use Rattle.ccd3.specs.Promise.{Promises}
+use Rattle.ccd3.specs.SafeTime.{safeTimeOf, Promises}
 use Rattle.ccd3.proofs.Handed.{points-fit}
 use Rattle.ccd3.proofs.StartLaws.{number-admission, safe-refused}
 use Rattle.ccd3.proofs.Admitted.{Fitting}

@@ -8,7 +8,7 @@ use borrow.Author.Needs.{needs}
 use lib.Dec.{lit≤}
 use lib.Ieee.{Float, lt}
 use Rattle.number.specs.Number.{zero32}
-use Rattle.distance.specs.Nearest.{nearestOf}
+use Rattle.distance.specs.Distance.{nearestOf}
 use Rattle.distance.specs.declared.candidate.Nearest.{Nearest}
 use Rattle.admission.specs.declared.Limits.{Limits}
 use Rattle.ccd3.specs.Step.{Visit}

@@ -1,5 +1,5 @@
 -- `distance::candidate::from_to` meets its contract. Assumes nothing.
-use Rattle.distance.specs.Candidate.{fromTo}
+use Rattle.distance.specs.Distance.{fromTo}
 use Rattle.distance.proofs.candidate.from_to.Statement.{statement}
 use Rattle.distance.proofs.candidate.from_to.Tie as tie
 

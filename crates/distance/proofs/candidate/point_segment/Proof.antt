@@ -1,5 +1,5 @@
 -- `distance::candidate::point_segment` meets its contract. Assumes nothing.
-use Rattle.distance.specs.Candidate.{pointSegment}
+use Rattle.distance.specs.Distance.{pointSegment}
 use Rattle.distance.proofs.candidate.point_segment.Statement.{statement}
 use Rattle.distance.proofs.candidate.point_segment.Tie as tie
 

@@ -1,5 +1,5 @@
 -- `distance::candidate::segment_point` meets its contract. Assumes nothing.
-use Rattle.distance.specs.Candidate.{segmentPoint}
+use Rattle.distance.specs.Distance.{segmentPoint}
 use Rattle.distance.proofs.candidate.segment_point.Statement.{statement}
 use Rattle.distance.proofs.candidate.segment_point.Tie as tie
 

@@ -1,8 +1,7 @@
 -- `distance::edge_edge::edge_edge` meets its contract: what it answers is the last candidate that is nearer than all
 -- before it, which is the first smallest. Assumes nothing.
-use Rattle.distance.specs.EdgeEdge.{edgeEdge}
-use Rattle.distance.proofs.Choice.{one, more, start, taken, passed}
-use Rattle.distance.proofs.Choice.{Given, given, inner-answered, other-answered}
+use Rattle.distance.specs.Distance.{edgeEdge}
+use Rattle.distance.proofs.Choice.{one, more, start, taken, passed, Given, given, inner-answered, other-answered}
 use Rattle.distance.proofs.Found.{edges-found}
 use Rattle.distance.proofs.edge_edge.edge_edge.Statement.{statement}
 use Rattle.distance.proofs.edge_edge.edge_edge.Tie as tie

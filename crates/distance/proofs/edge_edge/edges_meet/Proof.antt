@@ -1,5 +1,5 @@
 -- `distance::edge_edge::edges_meet` meets its contract. Assumes nothing.
-use Rattle.distance.specs.EdgeEdge.{edgesMeet}
+use Rattle.distance.specs.Distance.{edgesMeet}
 use Rattle.distance.proofs.edge_edge.edges_meet.Statement.{statement}
 use Rattle.distance.proofs.edge_edge.edges_meet.Tie as tie
 

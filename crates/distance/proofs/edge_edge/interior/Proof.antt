@@ -1,5 +1,5 @@
 -- `distance::edge_edge::interior` meets its contract. Assumes nothing.
-use Rattle.distance.specs.EdgeEdge.{edgeInterior}
+use Rattle.distance.specs.Distance.{edgeInterior}
 use Rattle.distance.proofs.edge_edge.interior.Statement.{statement}
 use Rattle.distance.proofs.edge_edge.interior.Tie as tie
 

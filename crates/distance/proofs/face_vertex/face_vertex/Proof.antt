@@ -1,8 +1,7 @@
 -- `distance::face_vertex::face_vertex` meets its contract: what it answers is the last candidate that is nearer than
 -- all before it, which is the first smallest. Assumes nothing.
-use Rattle.distance.specs.FaceVertex.{faceVertex}
-use Rattle.distance.proofs.Choice.{one, more, start, taken, passed}
-use Rattle.distance.proofs.Choice.{Given, given, inner-answered, other-answered}
+use Rattle.distance.specs.Distance.{faceVertex}
+use Rattle.distance.proofs.Choice.{one, more, start, taken, passed, Given, given, inner-answered, other-answered}
 use Rattle.distance.proofs.Found.{face-found}
 use Rattle.distance.proofs.face_vertex.face_vertex.Statement.{statement}
 use Rattle.distance.proofs.face_vertex.face_vertex.Tie as tie

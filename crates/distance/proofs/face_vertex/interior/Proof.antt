@@ -1,5 +1,5 @@
 -- `distance::face_vertex::interior` meets its contract. Assumes nothing.
-use Rattle.distance.specs.FaceVertex.{faceInterior}
+use Rattle.distance.specs.Distance.{faceInterior}
 use Rattle.distance.proofs.face_vertex.interior.Statement.{statement}
 use Rattle.distance.proofs.face_vertex.interior.Tie as tie
 

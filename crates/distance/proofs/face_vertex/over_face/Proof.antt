@@ -1,5 +1,5 @@
 -- `distance::face_vertex::over_face` meets its contract. Assumes nothing.
-use Rattle.distance.specs.FaceVertex.{overFace}
+use Rattle.distance.specs.Distance.{overFace}
 use Rattle.distance.proofs.face_vertex.over_face.Statement.{statement}
 use Rattle.distance.proofs.face_vertex.over_face.Tie as tie
 

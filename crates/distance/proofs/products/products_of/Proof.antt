@@ -1,5 +1,5 @@
 -- `distance::products::products_of` meets its contract. Assumes nothing.
-use Rattle.distance.specs.Products.{productsOf}
+use Rattle.distance.specs.Distance.{productsOf}
 use Rattle.distance.proofs.products.products_of.Statement.{statement}
 use Rattle.distance.proofs.products.products_of.Tie as tie
 

@@ -1,5 +1,5 @@
 -- `distance::segment::place_on` meets its contract. Assumes nothing.
-use Rattle.distance.specs.Segment.{placeOn}
+use Rattle.distance.specs.Distance.{placeOn}
 use Rattle.distance.proofs.segment.place_on.Statement.{statement}
 use Rattle.distance.proofs.segment.place_on.Tie as tie
 

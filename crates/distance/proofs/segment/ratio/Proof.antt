@@ -1,5 +1,5 @@
 -- `distance::segment::ratio` meets its contract, by either way through its test. Assumes nothing.
-use Rattle.distance.specs.Segment.{ratioAlong}
+use Rattle.distance.specs.Distance.{ratioAlong}
 use Rattle.distance.proofs.segment.ratio.Statement.{statement}
 use Rattle.distance.proofs.segment.ratio.Tie as tie
 

@@ -7,14 +7,12 @@ use mathlib.Core.List.{List}
 use borrow.Author.Needs.{needs}
 use lib.Dec.{T}
 use lib.Ieee.{Float}
-use Rattle.number.specs.Number.{zero32, one32}
-use Rattle.number.specs.Range.{between}
-use Rattle.polynomial_root.specs.Lower.{vanishes}
-use Rattle.polynomial_root.specs.Promises.{Tidy, InRange, reach}
+use Rattle.number.specs.Number.{zero32, one32, between}
+use Rattle.polynomial_root.specs.Cubic.{vanishes}
+use Rattle.polynomial_root.specs.Finder.{Tidy, InRange, reach, cubicRootsInRange}
 use Rattle.polynomial_root.specs.declared.answer.Roots.{Roots}
 use Rattle.polynomial_root.specs.declared.cubic.Cubic.{Cubic}
-use Rattle.polynomial_root.specs.Roots.{refused}
-use Rattle.polynomial_root.specs.Called.{cubicRootsInRange}
+use Rattle.polynomial_root.specs.Quadratic.{refused}
 use Rattle.polynomial_root.proofs.Places.{Holds, refused-holds}
 use Rattle.admission.specs.Admission.{finitePoints, motionRefusal}
 use Rattle.motion.specs.Coplanar.{motionCubic, coplanarTimes}

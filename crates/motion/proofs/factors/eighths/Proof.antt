@@ -8,7 +8,7 @@ use mathlib.Core.Bool.{Bool, not}
 use lib.Dec.{T}
 use lib.Ieee.{Float, lt}
 use Rattle.number.specs.Number.{_⊗_, _⊘_}
-use Rattle.motion.specs.Factors.{eight32, eighths, factorsOf}
+use Rattle.motion.specs.Scaling.{eight32, eighths, factorsOf}
 use Rattle.motion.proofs.Eighths.{Left, left-start, left-more, left-next, eighths-turn, eighths-stop}
 use Rattle.motion.proofs.factors.eighths.Statement.{statement}
 use Rattle.motion.proofs.factors.eighths.Tie as tie

@@ -6,9 +6,8 @@ use mathlib.Core.Path.{_≡_, refl, _∙_}
 use mathlib.Core.List.{List, foldl}
 use lib.Ieee.{Float}
 use borrow.Author.Needs.{needs}
-use Rattle.geometry.specs.Vec3.{col}
-use Rattle.pair.specs.Count.{count}
-use Rattle.motion.specs.Factors.{reachColumn, maxEntry}
+use Rattle.geometry.specs.Geometry.{col, count}
+use Rattle.motion.specs.Scaling.{reachColumn, maxEntry}
 use Rattle.pair.proofs.Counting.{fold-turn, fold-done}
 use Rattle.motion.proofs.factors.max_entry.Statement.{statement}
 use Rattle.motion.proofs.factors.max_entry.Tie as tie

@@ -1,6 +1,6 @@
 -- `motion::factors::reach` meets its contract. Assumes nothing.
 use borrow.Author.Needs.{needs}
-use Rattle.motion.specs.Factors.{reach}
+use Rattle.motion.specs.Scaling.{reach}
 use Rattle.motion.proofs.factors.reach.Statement.{statement}
 use Rattle.motion.proofs.factors.reach.Tie as tie
 

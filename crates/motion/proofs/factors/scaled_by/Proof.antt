@@ -7,8 +7,8 @@ use mathlib.Core.Path.{_≡_, ap, _∙_}
 use mathlib.Core.List.{List}
 use lib.Ieee.{Float}
 use borrow.Author.Needs.{needs}
-use Rattle.geometry.specs.Columns.{scaled}
-use Rattle.motion.specs.Factors.{eightfold, scaledBy}
+use Rattle.geometry.specs.Geometry.{scaled}
+use Rattle.motion.specs.Scaling.{eightfold, scaledBy}
 use Rattle.motion.proofs.factors.scaled_by.Statement.{statement}
 use Rattle.motion.proofs.factors.scaled_by.Tie as tie
 

@@ -9,7 +9,7 @@ use mathlib.Core.List.{List, foldl}
 use lib.Ieee.{Float}
 use borrow.Author.Needs.{needs}
 use Rattle.number.specs.Number.{larger}
-use Rattle.pair.specs.Count.{count}
+use Rattle.geometry.specs.Geometry.{count}
 use Rattle.pair.specs.Norm.{gapSquare, against, largestSquare}
 use Rattle.pair.proofs.Counting.{fold-turn, fold-done}
 use Rattle.pair.proofs.norm.largest_square.Statement.{statement}

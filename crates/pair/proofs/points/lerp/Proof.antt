@@ -5,12 +5,9 @@ use mathlib.Core.List.{List}
 use lib.Dec.{T}
 use lib.Ieee.{Float}
 use borrow.Author.Needs.{needs}
-use Rattle.number.specs.Number.{zero32}
-use Rattle.number.specs.Range.{isFinite}
-use Rattle.geometry.specs.Vec3.{vec}
-use Rattle.geometry.specs.Edge3.{lerpOf}
+use Rattle.number.specs.Number.{zero32, isFinite, admitted}
+use Rattle.geometry.specs.Geometry.{vec, lerpOf}
 use Rattle.pair.specs.declared.points.Placed.{Placed}
-use Rattle.number.specs.Answer.{admitted}
 use Rattle.admission.specs.Admission.{ofThree, ratioRefusal}
 use Rattle.pair.specs.Points.{placed}
 use Rattle.pair.proofs.StayFinite.{place-finite}

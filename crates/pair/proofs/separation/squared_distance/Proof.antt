@@ -4,11 +4,11 @@ use mathlib.Core.Path.{_≡_, _∙_}
 use mathlib.Core.List.{List}
 use lib.Ieee.{Float}
 use borrow.Author.Needs.{needs}
-use Rattle.distance.specs.Nearest.{nearestOf}
+use Rattle.distance.specs.Distance.{nearestOf}
 use Rattle.distance.specs.declared.candidate.Nearest.{Nearest}
 use Rattle.pair.specs.declared.separation.Measured.{Measured}
 use Rattle.admission.specs.Admission.{splitRefusal}
-use Rattle.pair.specs.Separation.{foundAt, refusedBy, measured}
+use Rattle.pair.specs.Points.{foundAt, refusedBy, measured}
 use Rattle.number.proofs.Answers.{taken, refused}
 use Rattle.pair.proofs.separation.squared_distance.Statement.{statement}
 use Rattle.pair.proofs.separation.squared_distance.Tie as tie

@@ -1,5 +1,5 @@
 -- `polynomial_root::answer::written` meets its contract, by either way through its test. Assumes nothing.
-use Rattle.polynomial_root.specs.Roots.{written}
+use Rattle.polynomial_root.specs.Quadratic.{written}
 use Rattle.polynomial_root.proofs.answer.written.Statement.{statement}
 use Rattle.polynomial_root.proofs.answer.written.Tie as tie
 

@@ -1,6 +1,6 @@
 -- `polynomial_root::lower::constant_roots` meets its contract, by either way through its test. Assumes nothing.
 use borrow.Author.Needs.{needs}
-use Rattle.polynomial_root.specs.Lower.{constantRoots}
+use Rattle.polynomial_root.specs.Cubic.{constantRoots}
 use Rattle.polynomial_root.proofs.lower.constant_roots.Statement.{statement}
 use Rattle.polynomial_root.proofs.lower.constant_roots.Tie as tie
 

@@ -4,7 +4,7 @@ use Prim.Native.Nat.{_≤_, _-_}
 use native.Mathlib.Omega.{arith}
 use mathlib.Core.Path.{_≡_, refl}
 use borrow.Author.Needs.{needs}
-use Rattle.polynomial_root.specs.Newton.{descend}
+use Rattle.polynomial_root.specs.Cubic.{descend}
 use Rattle.polynomial_root.proofs.Steps.{out-of-steps, stops, refuses, goes-on}
 use Rattle.polynomial_root.proofs.newton.descend.Statement.{statement}
 use Rattle.polynomial_root.proofs.newton.descend.Tie as tie

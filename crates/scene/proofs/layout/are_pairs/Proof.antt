@@ -4,7 +4,7 @@ use native.Mathlib.Nat.{le-antisymm}
 use native.Mathlib.Numerals.{add-one}
 use mathlib.Core.Path.{_≡_, refl, ap, _∙_}
 use borrow.Author.Needs.{needs}
-use Rattle.scene.specs.Layout.{arePairs}
+use Rattle.scene.specs.Scene.{arePairs}
 use Rattle.scene.proofs.layout.are_pairs.Statement.{statement}
 use Rattle.scene.proofs.layout.are_pairs.Tie as tie
 

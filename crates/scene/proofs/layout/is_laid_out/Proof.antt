@@ -1,6 +1,6 @@
 -- `scene::layout::is_laid_out` meets its contract. Assumes nothing.
 use borrow.Author.Needs.{needs}
-use Rattle.scene.specs.Layout.{laidOut}
+use Rattle.scene.specs.Scene.{laidOut}
 use Rattle.scene.proofs.layout.is_laid_out.Statement.{statement}
 use Rattle.scene.proofs.layout.is_laid_out.Tie as tie
 

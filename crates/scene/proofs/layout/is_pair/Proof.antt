@@ -1,6 +1,6 @@
 -- `scene::layout::is_pair` meets its contract. Assumes nothing.
 use borrow.Author.Needs.{needs}
-use Rattle.scene.specs.Layout.{isPair}
+use Rattle.scene.specs.Scene.{isPair}
 use Rattle.scene.proofs.layout.is_pair.Statement.{statement}
 use Rattle.scene.proofs.layout.is_pair.Tie as tie
 

@@ -6,7 +6,7 @@ use mathlib.Core.Bool.{true, false}
 use Prim.Native.Nat.{ℕ}
 use native.Mathlib.Omega.{arith}
 use Rattle.scene.specs.declared.layout.Scene.{Scene}
-use Rattle.scene.specs.Layout.{pointCount, pairCount, laidOut, arePairs, refused, sceneOf}
+use Rattle.scene.specs.Scene.{pointCount, pairCount, laidOut, arePairs, refused, sceneOf}
 use Rattle.scene.specs.Spelled.{Taken}
 use Rattle.scene.proofs.Spelling.{Bytes, taken-of}
 use Rattle.scene.proofs.layout.read.Statement.{statement}

@@ -1,6 +1,6 @@
 -- `scene::pairs::chosen` meets its contract. Assumes nothing.
 use borrow.Author.Needs.{needs}
-use Rattle.scene.specs.Pairs.{chosen}
+use Rattle.scene.specs.Scene.{chosen}
 use Rattle.scene.proofs.pairs.chosen.Statement.{statement}
 use Rattle.scene.proofs.pairs.chosen.Tie as tie
 

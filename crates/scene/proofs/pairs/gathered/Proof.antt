@@ -1,6 +1,6 @@
 -- `scene::pairs::gathered` meets its contract. Assumes nothing.
 use borrow.Author.Needs.{needs}
-use Rattle.scene.specs.Pairs.{gathered}
+use Rattle.scene.specs.Scene.{gathered}
 use Rattle.scene.proofs.pairs.gathered.Statement.{statement}
 use Rattle.scene.proofs.pairs.gathered.Tie as tie
 

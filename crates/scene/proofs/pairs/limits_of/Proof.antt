@@ -1,6 +1,6 @@
 -- `scene::pairs::limits_of` meets its contract. Assumes nothing.
 use borrow.Author.Needs.{needs}
-use Rattle.scene.specs.Pairs.{limitsOf}
+use Rattle.scene.specs.Scene.{limitsOf}
 use Rattle.scene.proofs.pairs.limits_of.Statement.{statement}
 use Rattle.scene.proofs.pairs.limits_of.Tie as tie
 

@@ -1,6 +1,6 @@
 -- `scene::pairs::safe_time` meets its contract. Assumes nothing.
 use borrow.Author.Needs.{needs}
-use Rattle.scene.specs.Pairs.{timeOf}
+use Rattle.scene.specs.Scene.{timeOf}
 use Rattle.scene.proofs.pairs.safe_time.Statement.{statement}
 use Rattle.scene.proofs.pairs.safe_time.Tie as tie
 

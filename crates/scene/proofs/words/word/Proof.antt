@@ -1,6 +1,6 @@
 -- `scene::words::word` meets its contract. Assumes nothing.
 use borrow.Author.Needs.{needs}
-use Rattle.scene.specs.Words.{word}
+use Rattle.scene.specs.Scene.{word}
 use Rattle.scene.proofs.words.word.Statement.{statement}
 use Rattle.scene.proofs.words.word.Tie as tie
 

@@ -1,7 +1,7 @@
 -- `urtemval::answer::told` meets its contract: by either variant. Assumes nothing.
 use borrow.Author.Needs.{needs}
-use Rattle.number.specs.Answer.{refusalOf, valueOf}
-use Rattle.urtemval.specs.Told.{told}
+use Rattle.number.specs.Number.{refusalOf, valueOf}
+use Rattle.urtemval.specs.Face.{told}
 use Rattle.urtemval.proofs.answer.told.Statement.{statement}
 use Rattle.urtemval.proofs.answer.told.Tie as tie
 

@@ -8,8 +8,7 @@ use Rattle.motion.specs.declared.scaling.Scaled.{Scaled}
 use Rattle.motion.specs.Scaling.{scalingOf, leaves, Scales}
 use Rattle.motion.proofs.Scalings.{refused-stands}
 use Rattle.urtemval.specs.declared.answer.Value.{Value}
-use Rattle.urtemval.specs.Told.{told}
-use Rattle.urtemval.specs.Lent.{pairOf}
+use Rattle.urtemval.specs.Face.{told, pairOf}
 use Rattle.urtemval.proofs.points.urtemval_scale_pair.Statement.{statement}
 use Rattle.urtemval.proofs.points.urtemval_scale_pair.Tie as tie
 

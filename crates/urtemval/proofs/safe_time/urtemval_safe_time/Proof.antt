@@ -1,7 +1,7 @@
 -- `urtemval::safe_time::urtemval_safe_time` meets its contract: the library's answer, and its promises, told in
 -- numbers. Assumes nothing.
 use borrow.Author.Needs.{needs}
-use Rattle.urtemval.specs.Told.{safeTime}
+use Rattle.urtemval.specs.Face.{safeTime}
 use Rattle.urtemval.proofs.safe_time.urtemval_safe_time.Statement.{statement}
 use Rattle.urtemval.proofs.safe_time.urtemval_safe_time.Tie as tie
 

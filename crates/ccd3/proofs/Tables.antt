@@ -1,68 +1,18 @@
--- The cross pairs still to come in the two loops over the columns, what one of them does to the least time, and that
--- tables of what each pair leaves give the step of the definition (specs/Directional.antt, specs/Tables.antt). All of
--- it is said over any split or any list of pairs. Assumes nothing.
+-- Tables of what each cross pair leaves give the directional step of the definition (specs/Step.antt, specs/Tables.antt):
+-- what one pair does to the least time, and that both say the same of any list of pairs. Assumes nothing.
 use mathlib.Core.Path.{_≡_, refl, ap, _∙_}
 use mathlib.Core.Bool.{Bool, true, false, cond}
-use mathlib.Core.List.{List, [], _∷_, _++_, map, flatMap}
-use Prim.Native.Nat.{ℕ, suc, _+_, _-_, _≤_, _<_}
-use native.Mathlib.Numerals.{add-one}
-use native.Mathlib.Omega.{arith}
+use mathlib.Core.List.{List, [], _∷_}
+use Prim.Native.Nat.{_-_}
 use lib.Dec.{T, not-T}
 use lib.Ieee.Bits.{is-false}
 use lib.Ieee.{Float, lt, le}
 use Rattle.number.specs.Number.{_⊖_, _⊗_, _⊘_, zero32, largest32, smaller, larger}
 use Rattle.number.proofs.Transitive.{lt-trans, lt-self}
-use Rattle.geometry.specs.Vec3.{dot}
+use Rattle.geometry.specs.Geometry.{dot, Cross}
 use Rattle.ccd3.specs.declared.Aim.{Aim}
-use Rattle.ccd3.specs.Directional.{
-  Cross,
-  cross,
-  columns,
-  gap,
-  rel,
-  projected,
-  lessened,
-  leastOver,
-}
+use Rattle.ccd3.specs.Step.{gap, rel, projected, lessened, leastOver}
 use Rattle.ccd3.specs.Tables.{timeLeft, entry, leastIn}
-
--- ---- the pairs still to come
-columns-next : (i n : ℕ) → i < n → columns i (n - i) ≡ i ∷ columns (i + 1) (n - (i + 1))
-unfolding columns
-columns-next i n h =
-    let one-less : n - i ≡ suc (n - (i + 1)) = omega arith in
-    rw (one-less, add-one i)
-
-columns-done : (i n : ℕ) → n ≤ i → columns i (n - i) ≡ []
-unfolding columns
-columns-done i n h =
-    let none : n - i ≡ 0 = omega arith in
-    rw none
-
-module _ (split : ℕ) where
-  -- column i against those from j on; the rows from column i on; both, within row i
-  abbrev row : ℕ → ℕ → List Cross
-  row i j = map (cross i) (columns j (4 - j))
-
-  abbrev pub rows : ℕ → List Cross
-  rows i = flatMap (λ (k : ℕ). row k split) (columns i (split - i))
-
-  abbrev pub rest : ℕ → ℕ → List Cross
-  rest i j = row i j ++ rows (i + 1)
-
-  pub row-next : (i j : ℕ) → j < 4 → rest i j ≡ cross i j ∷ rest i (j + 1)
-  row-next i j h = ap (λ (js : List ℕ). map (cross i) js ++ rows (i + 1)) (columns-next j 4 h)
-
-  pub row-done : (i j : ℕ) → 4 ≤ j → rest i j ≡ rows (i + 1)
-  row-done i j h = ap (λ (js : List ℕ). map (cross i) js ++ rows (i + 1)) (columns-done j 4 h)
-
-  pub rows-next : (i : ℕ) → i < split → rows i ≡ rest i split
-  unfolding flatMap
-  rows-next i h = ap (flatMap (λ (k : ℕ). row k split)) (columns-next i split h)
-
-  pub rows-done : (i : ℕ) → split ≤ i → rows i ≡ []
-  unfolding flatMap
-  rows-done i h = ap (flatMap (λ (k : ℕ). row k split)) (columns-done i split h)
 
 -- ---- one pair, as the loop meets it
 module _ (reach time : List (List Float)) (dip : Float) where
