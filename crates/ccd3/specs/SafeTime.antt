@@ -12,7 +12,7 @@ use Rattle.ccd3.specs.declared.Answer.{Answer}
 use Rattle.ccd3.specs.declared.Answer.the-variants.{Touching, Refused}
 use Rattle.ccd3.specs.declared.SafeTime.{SafeTime}
 use Rattle.ccd3.specs.Step.{park}
-use Rattle.ccd3.specs.Walk.{Walked, start, walk, told, refusalOf, kindOf, timeOf, written, squaredAt, above}
+use Rattle.ccd3.specs.Walk.{Walked, unbracketed, ends, start, walk, counted, told, refusalOf, kindOf, timeOf, written, squaredAt, above}
 use mathlib.Core.Path.{_≡_}
 use lib.Dec.{T}
 use lib.ListN.{length}
@@ -27,9 +27,13 @@ squaredOffset l = l .offset ⊗ l .offset
 abbrev pub allowance : ℕ
 allowance = 4096
 
+-- what the squared distance has to stay above
+abbrev pub threshold : Limits → Float
+threshold l = squaredPark l
+
 -- an answer with no walk
 abbrev pub still : Answer → Walked
-still a = record { answer = a; probed = []; halvings = 0 }
+still a = ends (unbracketed a zero32)
 
 module _ (x₀ dx : List (List Float)) (split : ℕ) (l : Limits) where
   unfoldable pub firstSquared : Float
@@ -46,20 +50,20 @@ module _ (x₀ dx : List (List Float)) (split : ℕ) (l : Limits) where
   unfolding firstSquared
   safeRefusal = elim (walkRefusal x₀ dx split l) [ zero ↦ cond between 3 0 | suc n ↦ suc n ]
 
-  -- of any numbers
-  unfoldable pub safeWalk : Walked
+  -- of any numbers, with so many probes allowed
+  unfoldable pub safeWalk : ℕ → Walked
   unfolding firstSquared safeRefusal walk
-  safeWalk = elim safeRefusal [
+  safeWalk allowed = elim safeRefusal [
     | zero ↦ elim touches [
       | true ↦ still (Touching zero32)
-      | false ↦ walk x₀ dx split (squaredPark l) l allowance (start x₀ dx split)
+      | false ↦ walk x₀ dx split (threshold l) l allowed (start x₀ dx split)
     ]
     | suc n ↦ still (Refused (suc n))
   ]
 
 unfoldable pub safeTimeOf : List (List Float) → List (List Float) → ℕ → Limits → SafeTime
 unfolding safeWalk
-safeTimeOf x₀ dx split l = told 0 (safeWalk x₀ dx split l)
+safeTimeOf x₀ dx split l = told (counted 0 (safeWalk x₀ dx split l allowance))
 
 -- ---- the promises, over the numbers of the answer and the walk of the definition
 -- a time from 0 to the time limit, a zero with the sign plus
@@ -85,14 +89,20 @@ pub record Refusal (kind : ℕ) (time : Float) (probes halvings : ℕ) : Type 0 
   pub no-probes : probes ≡ 0
   pub no-halvings : halvings ≡ 0
 
-module _ (x₀ dx : List (List Float)) (split : ℕ) (l : Limits) where
-  -- whether the computed squared distance at a time exceeds the squared park distance
+-- contact: far at the time, and at the next f32 time, within the limit, not far
+pub record Stopped (isFar : Float → Bool) (l : Limits) (t : Float) : Type 0 where
+  pub far : isFar t ≡ true
+  pub next-near : isFar (nextUp t) ≡ false
+  pub next-in-time : T (le (nextUp t) (l .«max_t»))
+
+module _ (x₀ dx : List (List Float)) (split : ℕ) (l : Limits) (allowed : ℕ) where
+  -- whether the computed squared distance at a time exceeds the threshold
   abbrev pub isFar : Float → Bool
-  isFar t = above x₀ dx split (squaredPark l) t
+  isFar t = above x₀ dx split (threshold l) t
 
   -- the times that the definition's walk probes
   abbrev pub probed : List Float
-  probed = safeWalk x₀ dx split l .probed
+  probed = safeWalk x₀ dx split l allowed .probed
 
   -- not refused: no step goes back in time, and no squared distance from 0 to the time limit is NaN
   pub record Steady : Type 0 where
@@ -106,40 +116,35 @@ module _ (x₀ dx : List (List Float)) (split : ℕ) (l : Limits) where
     pub is-zero : t ≡ zero32
     pub close : touches x₀ dx split l ≡ true
 
-  -- contact: it exceeds it at the time, and at the next f32 time, within the limit, it does not
-  pub record Stopped (t : Float) : Type 0 where
-    pub far : isFar t ≡ true
-    pub next-near : isFar (nextUp t) ≡ false
-    pub next-in-time : T (le (nextUp t) (l .«max_t»))
-
   -- clear: it exceeded it at the start and at every probe made
   pub record Passed (t : Float) : Type 0 where
     pub is-limit : t ≡ written (l .«max_t»)
-    pub start-far : lt (squaredPark l) (firstSquared x₀ dx split l) ≡ true
+    pub start-far : lt (threshold l) (firstSquared x₀ dx split l) ≡ true
     pub probes-far : Every (λ (u : Float). isFar u ≡ true) probed
 
   -- budget: it exceeds it at the time, and every probe allowed was made
   pub record Paused (t : Float) (probes : ℕ) : Type 0 where
     pub far : isFar t ≡ true
-    pub all-made : probes ≡ allowance
+    pub all-made : probes ≡ allowed
 
   -- the numbers of an answer; kinds are 0 touching, 1 contact, 2 clear, 3 budget, 4 refused
   pub record Promised (refusal kind : ℕ) (time : Float) (probes halvings : ℕ) : Type 0 where
     pub number : refusal ≡ safeRefusal x₀ dx split l
     pub probes-counted : probes ≡ length probed
-    pub halvings-counted : halvings ≡ safeWalk x₀ dx split l .halvings
-    pub few-probes : probes ≤ allowance
+    pub halvings-counted : halvings ≡ safeWalk x₀ dx split l allowed .ending .halvings
+    pub few-probes : probes ≤ allowed
     pub few-halvings : halvings ≤ 256
     pub refused : (refusal ≡ 0 → ⊥) → Refusal kind time probes halvings
     pub answered : refusal ≡ 0 → kind ≤ 3
     pub timed : refusal ≡ 0 → InTime l time
     pub steady : refusal ≡ 0 → Steady
     pub touching : kind ≡ 0 → Touched time
-    pub contact : kind ≡ 1 → Stopped time
+    pub contact : kind ≡ 1 → Stopped isFar l time
     pub clear : kind ≡ 2 → Passed time
     pub budget : kind ≡ 3 → Paused time probes
 
-  -- of an answer as the library gives it
-  abbrev pub Promises : SafeTime → Type 0
-  Promises s =
-      Promised (refusalOf (s .answer)) (kindOf (s .answer)) (timeOf (s .answer)) (s .probes) (s .halvings)
+-- of an answer as the library gives it
+abbrev pub Promises : List (List Float) → List (List Float) → ℕ → Limits → SafeTime → Type 0
+Promises x₀ dx split l s =
+    Promised x₀ dx split l allowance (refusalOf (s .answer)) (kindOf (s .answer)) (timeOf (s .answer)) (s .probes)
+    (s .halvings)

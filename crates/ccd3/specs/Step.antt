@@ -1,16 +1,17 @@
 -- One step of the walk: the longer of the step that is safe whatever the direction and the directional one
 -- (docs/01-scope.md, "The directional step", "The walk"). Definitions only.
 use Prim.Native.Nat.{ℕ}
-use mathlib.Core.Bool.{cond}
+use mathlib.Core.Bool.{Bool, true, false, cond, _&&_}
 use mathlib.Core.List.{List, [], _∷_}
+use mathlib.Core.Option.{Option, none, some}
 use lib.Dec.{eqb}
-use lib.Ieee.{Float, binary32, lt, le, ofBits}
-use Rattle.number.specs.Number.{_⊕_, _⊖_, _⊗_, _⊘_, zero32, largest32, size, smaller, larger, half32, one32}
-use Rattle.geometry.specs.Geometry.{at, col, vec, minus, dot, Cross, crossPairs}
-use Rattle.ccd3.specs.declared.Aim.{Aim}
+use lib.Ieee.{Float, binary32, lt, le, eq, ofBits}
+use Rattle.number.specs.Number.{_⊕_, _⊖_, _⊗_, _⊘_, zero32, half32, one32, largest32, size, smaller, larger}
 use Rattle.number.specs.Root.{rootOf}
+use Rattle.geometry.specs.Geometry.{at, col, vec, minus, dot, Cross, crossPairs}
 use Rattle.distance.specs.declared.candidate.Nearest.{Nearest}
 use Rattle.admission.specs.declared.Limits.{Limits}
+use Rattle.ccd3.specs.declared.Aim.{Aim}
 
 -- ---- the directional step: how far the pair may move before some column of the first side can come near some column
 -- of the second along the direction w
@@ -45,22 +46,53 @@ module _ (a : Aim) where
   unfoldable pub projected : List Float → List Float → Float
   projected g r = dot (a .w) g ⊖ err g r
 
-  -- the least time so far, with that of a pair that closes in from `reach` at `speed`
-  unfoldable pub lessened : Float → Float → Float → Float
-  lessened least reach speed =
-      cond (lt zero32 speed) (smaller least (larger (reach ⊖ a .park ⊗ a .norm) zero32 ⊘ speed)) least
+  -- the time in which a pair at this projected gap comes to park, at this speed
+  unfoldable pub timeToPark : Float → Float → Float
+  timeToPark left speed = larger (left ⊖ a .park ⊗ a .norm) zero32 ⊘ speed
 
-  -- the first pair whose projected gap is not above dip ends it all with 0
-  unfoldable pub leastOver : List (List Float) → List (List Float) → List Cross → Float → Float
-  unfolding projected lessened
-  leastOver x dx [] least = least
-  leastOver x dx (p ∷ rest) least =
-      cond (le (projected (gap x p) (rel dx p)) (a .dip ⊗ a .norm)) zero32
-      (leastOver x dx rest (lessened least (projected (gap x p) (rel dx p)) (dot (a .w) (rel dx p))))
+  module _ (x dx : List (List Float)) where
+    -- what is left of a pair's gap, and how fast the pair closes in
+    abbrev pub leftOf : Cross → Float
+    leftOf p = projected (gap x p) (rel dx p)
 
-unfoldable pub directional : List (List Float) → List (List Float) → ℕ → Aim → Float
+    abbrev pub speedOf : Cross → Float
+    speedOf p = dot (a .w) (rel dx p)
+
+    -- a pair that is not beyond dip
+    abbrev pub stops : Cross → Bool
+    stops p = le (leftOf p) (a .dip ⊗ a .norm)
+
+    -- the least time over pairs that close in; the first pair that is not beyond dip ends it all with 0
+    unfoldable pub leastOver : List Cross → Float → Float
+    leastOver [] least = least
+    leastOver (p ∷ rest) least =
+        cond (stops p) zero32
+        (leastOver rest (cond (lt zero32 (speedOf p)) (smaller least (timeToPark (leftOf p) (speedOf p))) least))
+
+    -- a pair that closes in to park in the time t
+    abbrev pub takes : Float → Cross → Bool
+    takes t p = lt zero32 (speedOf p) && eq (timeToPark (leftOf p) (speedOf p)) t
+
+-- the first pair that passes a test
+unfoldable pub firstOf : (Cross → Bool) → List Cross → Option Cross
+firstOf test [] = none
+firstOf test (p ∷ rest) = cond (test p) (some p) (firstOf test rest)
+
+-- a directional step: its length, and the pair that set it: the one that ended it all, else the first of the least time;
+-- none where no time is finite
+pub record Advance : Type 0 where
+  pub length : Float
+  pub by : Option Cross
+
+unfoldable pub directional : List (List Float) → List (List Float) → ℕ → Aim → Advance
 unfolding crossPairs leastOver
-directional x dx split a = leastOver a x dx (crossPairs (twoOrThree split)) largest32
+directional x dx split a =
+    let pairs = crossPairs (twoOrThree split) in
+    let least = leastOver a x dx pairs largest32 in
+    record {
+      length = least;
+      by = elim (firstOf (stops a x dx) pairs) [ none ↦ firstOf (takes a x dx least) pairs | some p ↦ some p ];
+    }
 
 -- ---- the step
 abbrev pub park : Limits → Float
@@ -89,12 +121,20 @@ aim l near = record {
   «max_t» = l .«max_t»;
 }
 
+-- a step: its length, whether the directional one was tried, and whether that was the longer
+pub record Step : Type 0 where
+  pub length : Float
+  pub tried : Bool
+  pub directed : Bool
+
 -- the directional step is tried only where the plain one ends within the time limit
-unfoldable pub step : List (List Float) → ℕ → Limits → Visit → Float
-step dx split l v =
+unfoldable pub stepFrom : List (List Float) → ℕ → Limits → Visit → Step
+stepFrom dx split l v =
     let p = plain l (rootOf (v .near .squared)) in
-    cond (le (v .time ⊕ p) (l .«max_t»)) (larger p (directional (v .points) dx split (aim l (v .near)))) p
+    let d = directional (v .points) dx split (aim l (v .near)) .length in
+    cond (le (v .time ⊕ p) (l .«max_t»)) (record { length = larger p d; tried = true; directed = lt p d })
+    (record { length = p; tried = false; directed = false })
 
 -- the time after the step
 abbrev pub next : List (List Float) → ℕ → Limits → Visit → Float
-next dx split l v = v .time ⊕ step dx split l v
+next dx split l v = v .time ⊕ stepFrom dx split l v .length

@@ -14,7 +14,9 @@ use Rattle.geometry.specs.Geometry.{moved}
 use Rattle.distance.specs.Distance.{nearestOf}
 use Rattle.admission.specs.declared.Limits.{Limits}
 use Rattle.ccd3.specs.declared.SafeTime.{SafeTime}
-use Rattle.ccd3.specs.Step.{Visit, step, next}
+use Rattle.ccd3.specs.declared.Ending.{Ending}
+use Rattle.ccd3.specs.declared.Counted.{Counted}
+use Rattle.ccd3.specs.Step.{Visit, stepFrom, next}
 
 -- ---- the answer, by number and value for each case
 -- the refusal's number; 0 where there is none
@@ -46,16 +48,6 @@ timeOf (Refused n) = zero32
 abbrev pub written : Float → Float
 written t = larger zero32 t
 
--- all that a walk tells: its answer, the times that it probed, in order, and how often it halved
-pub record Walked : Type 0 where
-  pub answer : Answer
-  pub probed : List Float
-  pub halvings : ℕ
-
--- a walk that probed the time t first
-abbrev pub probing : Float → Walked → Walked
-probing t w = record { answer = w .answer; probed = t ∷ w .probed; halvings = w .halvings }
-
 module _ (x₀ dx : List (List Float)) (split : ℕ) where
   -- the start is where the points are handed over
   abbrev pub start : Visit
@@ -78,35 +70,55 @@ module _ (x₀ dx : List (List Float)) (split : ℕ) where
   unfolding above halve
   closing threshold lower upper = halve (above threshold) 255 0 lower upper
 
+-- an ending with no bracket, at the visit of this time: the last step was taken from there, the last probe made there
+abbrev pub unbracketed : Answer → Float → Ending
+unbracketed a t = record { answer = a; from = t; to = t; lower = zero32; upper = zero32; halvings = 0 }
+
 -- the step ends past the time limit
-abbrev pub cleared : Limits → Walked
-cleared l = record { answer = Clear (written (l .«max_t»)); probed = []; halvings = 0 }
+abbrev pub cleared : Limits → Visit → Ending
+cleared l v = unbracketed (Clear (written (l .«max_t»))) (v .time)
 
 -- no probe is left
-abbrev pub spent : Visit → Walked
-spent v = record { answer = Budget (v .time); probed = []; halvings = 0 }
+abbrev pub spent : Visit → Ending
+spent v = unbracketed (Budget (v .time)) (v .time)
+
+-- all that a walk tells: how it ended, and the times that it probed, in order
+pub record Walked : Type 0 where
+  pub ending : Ending
+  pub probed : List Float
+
+-- a walk that ends with no probe more; one that probed the time t first
+abbrev pub ends : Ending → Walked
+ends e = record { ending = e; probed = [] }
+
+abbrev pub probing : Float → Walked → Walked
+probing t w = record { ending = w .ending; probed = t ∷ w .probed }
 
 module _ (x₀ dx : List (List Float)) (split : ℕ) (threshold : Float) where
-  -- the probe at `upper` is not above the threshold any more
-  abbrev pub met : Float → Float → Walked
-  met lower upper = record {
-    answer = Contact (closing x₀ dx split threshold lower upper .lower);
-    probed = upper ∷ [];
-    halvings = closing x₀ dx split threshold lower upper .count;
-  }
+  -- the probe at `to` is not above the threshold any more
+  abbrev pub met : Float → Float → Ending
+  met from to =
+      let h = closing x₀ dx split threshold from to in
+      record { answer = Contact (h .lower); from = from; to = to; lower = h .lower; upper = h .upper; halvings = h .count }
 
   -- from a visit above the threshold, with so many probes left
   unfoldable pub walk : Limits → ℕ → Visit → Walked
-  unfolding step above closing
-  walk l zero v = elim (lt (l .«max_t») (next dx split l v)) [ true ↦ cleared l | false ↦ spent v ]
-  walk l (suc left) v = elim (lt (l .«max_t») (next dx split l v)) [
-    | true ↦ cleared l
-    | false ↦ elim (above x₀ dx split threshold (next dx split l v)) [
-      | true ↦ probing (next dx split l v) (walk l left (visit x₀ dx split (next dx split l v)))
-      | false ↦ met (v .time) (next dx split l v)
-    ]
-  ]
+  unfolding stepFrom above closing
+  walk l zero v = elim (lt (l .«max_t») (next dx split l v)) [ true ↦ ends (cleared l v) | false ↦ ends (spent v) ]
+  walk l (suc left) v =
+      let t = next dx split l v in
+      elim (lt (l .«max_t») t) [
+        | true ↦ ends (cleared l v)
+        | false ↦ probing t (elim (above x₀ dx split threshold t) [
+          | true ↦ walk l left (visit x₀ dx split t)
+          | false ↦ ends (met (v .time) t)
+        ])
+      ]
 
--- what a call tells of a walk that goes on after n probes: the answer, and the counts
-abbrev pub told : ℕ → Walked → SafeTime
-told n w = record { answer = w .answer; probes = n + length (w .probed); halvings = w .halvings }
+-- what is left of a walk that goes on after n probes: how it ends, and how many probes it has made by then
+abbrev pub counted : ℕ → Walked → Counted
+counted n w = record { ending = w .ending; probes = n + length (w .probed) }
+
+-- what a call tells of it
+abbrev pub told : Counted → SafeTime
+told c = record { answer = c .ending .answer; probes = c .probes; halvings = c .ending .halvings }

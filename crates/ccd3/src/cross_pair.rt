@@ -52,15 +52,15 @@ pub(crate) fn projected(
     dot(w, gap) - err
 }
 
-// How long columns that are displaced by `first` and `second` take to close in from `reach`; the largest f32 where
-// they do not close in.
-pub(crate) fn time_left(reach: f32, first: [f32; 3], second: [f32; 3], a: Aim) -> f32
-    ensures { λ r. ⌜ r ≡ Tables.timeLeft a reach (Vec3.dot (a .w) (Vec3.minus first second)) ⌝ }
+// How long columns that are displaced by `first` and `second` take to close in, with this gap left; the largest f32
+// where they do not close in.
+pub(crate) fn time_left(left: f32, first: [f32; 3], second: [f32; 3], a: Aim) -> f32
+    ensures { λ r. ⌜ r ≡ Tables.timeLeft a left (Vec3.dot (a .w) (Vec3.minus first second)) ⌝ }
 {
     let w = a.w;
     let speed = dot(w, sub(first, second));
     if 0.0 < speed {
-        larger(reach - a.park * a.norm, 0.0) / speed
+        larger(left - a.park * a.norm, 0.0) / speed
     } else {
         LARGEST
     }

@@ -11,18 +11,18 @@ use crate::cross_pair::projected;
 use crate::cross_pair::time_left;
 use number::order::smaller;
 
-// The least time over the columns i before the split and j from it, where `reach` and `time` have at i, j what that
+// The least time over the columns i before the split and j from it, where `left` and `time` have at i, j what that
 // pair leaves. The first pair that is not beyond dip ends both loops at once with step 0.
-fn over_sides(reach: [[f32; 4]; 3], time: [[f32; 4]; 3], split: usize, dip: f32) -> f32
+fn over_sides(left: [[f32; 4]; 3], time: [[f32; 4]; 3], split: usize, dip: f32) -> f32
     requires { ⌜ split ≤ 3 ⌝ }
-    ensures { λ r. ⌜ r ≡ Tables.leastIn reach time dip (crossPairs split) largest32 ⌝ }
+    ensures { λ r. ⌜ r ≡ Tables.leastIn left time dip (crossPairs split) largest32 ⌝ }
 {
     let mut step = LARGEST;
     'sides: for i in 0..split {
-        let reaches = reach[i];
+        let lefts = left[i];
         let times = time[i];
         for j in split..4 {
-            if reaches[j] <= dip {
+            if lefts[j] <= dip {
                 step = 0.0;
                 break 'sides;
             }
@@ -53,7 +53,7 @@ fn between_edges(x: [[f32; 3]; 4], dx: [[f32; 3]; 4], a: Aim) -> f32
     let t03 = time_left(r03, d0, d3, a);
     let t12 = time_left(r12, d1, d2, a);
     let t13 = time_left(r13, d1, d3, a);
-    let reach = [
+    let left = [
         [0.0, 0.0, r02, r03],
         [0.0, 0.0, r12, r13],
         [0.0, 0.0, 0.0, 0.0],
@@ -63,7 +63,7 @@ fn between_edges(x: [[f32; 3]; 4], dx: [[f32; 3]; 4], a: Aim) -> f32
         [0.0, 0.0, t12, t13],
         [0.0, 0.0, 0.0, 0.0],
     ];
-    over_sides(reach, time, 2, a.dip * a.norm)
+    over_sides(left, time, 2, a.dip * a.norm)
 }
 
 // Of a face and a vertex.
@@ -84,7 +84,7 @@ fn face_to_vertex(x: [[f32; 3]; 4], dx: [[f32; 3]; 4], a: Aim) -> f32
     let t03 = time_left(r03, d0, d3, a);
     let t13 = time_left(r13, d1, d3, a);
     let t23 = time_left(r23, d2, d3, a);
-    let reach = [
+    let left = [
         [0.0, 0.0, 0.0, r03],
         [0.0, 0.0, 0.0, r13],
         [0.0, 0.0, 0.0, r23],
@@ -94,13 +94,13 @@ fn face_to_vertex(x: [[f32; 3]; 4], dx: [[f32; 3]; 4], a: Aim) -> f32
         [0.0, 0.0, 0.0, t13],
         [0.0, 0.0, 0.0, t23],
     ];
-    over_sides(reach, time, 3, a.dip * a.norm)
+    over_sides(left, time, 3, a.dip * a.norm)
 }
 
 // The longest step in which no column of one side can come near one of the other along the direction: 0 where some
 // pair of columns is not beyond dip.
 pub(crate) fn directional_advance(x: [[f32; 3]; 4], dx: [[f32; 3]; 4], split: usize, a: Aim) -> f32
-    ensures { λ r. ⌜ r ≡ Def.directional x dx split a ⌝ }
+    ensures { λ r. ⌜ r ≡ Def.directional x dx split a .length ⌝ }
 {
     if split == 2 {
         between_edges(x, dx, a)

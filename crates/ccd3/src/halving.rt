@@ -4,9 +4,11 @@ ghost use mathlib.Core.Path.{_≡_};
 ghost use Rattle.ccd3.specs.Walk as Def;
 use geometry::mat3x4_array_of_cols::add_scaled;
 
-// Where the halving ended: the last time above the threshold, and how many halvings there were.
+// Where the halving ended: the last time above the threshold and the first that is not, and how many halvings there
+// were.
 pub(crate) struct Closed {
     pub(crate) lower: f32,
+    pub(crate) upper: f32,
     pub(crate) count: u32,
 }
 
@@ -27,6 +29,7 @@ pub(crate) fn close_in(
     to: f32,
 ) -> Closed
     ensures lower { λ r. ⌜ r .lower ≡ Def.closing x0 dx split threshold from to .lower ⌝ }
+    ensures upper { λ r. ⌜ r .upper ≡ Def.closing x0 dx split threshold from to .upper ⌝ }
     ensures count { λ r. ⌜ r .count ≡ Def.closing x0 dx split threshold from to .count ⌝ }
 {
     let mut lower = from;
@@ -43,9 +46,17 @@ pub(crate) fn close_in(
         count += 1;
         let narrower = upper - lower;
         if narrower == window {
-            return Closed { lower, count };
+            return Closed {
+                lower,
+                upper,
+                count,
+            };
         }
         window = narrower;
     }
-    Closed { lower, count }
+    Closed {
+        lower,
+        upper,
+        count,
+    }
 }

@@ -25,6 +25,23 @@ pub(crate) struct Aim {
     pub(crate) max_t: f32,
 }
 
+// How a walk ends: its answer; the time of the visit from which the last step was taken, and the last time probed; the
+// ends of the last bracket, and how often it was halved. With no bracket its ends are zero; with no walk all is.
+pub(crate) struct Ending {
+    pub(crate) answer: Answer,
+    pub(crate) from: f32,
+    pub(crate) to: f32,
+    pub(crate) lower: f32,
+    pub(crate) upper: f32,
+    pub(crate) halvings: u32,
+}
+
+// How it ends, and how many probes were made.
+pub(crate) struct Counted {
+    pub(crate) ending: Ending,
+    pub(crate) probes: u32,
+}
+
 mod cross_pair;
 mod directional;
 mod halving;

@@ -1,31 +1,46 @@
 // The safe time of a pair (ccd3.rs: `maximum_safe_time_accurate`; docs/01-scope.md, "The walk").
 ghost use mathlib.Core.Path.{_≡_};
 ghost use Rattle.admission.specs.Admission.{walkRefusal};
-ghost use Rattle.ccd3.specs.Walk.{told};
+ghost use Rattle.ccd3.specs.Walk.{counted};
 ghost use Rattle.ccd3.specs.SafeTime as Def;
-ghost use Rattle.ccd3.specs.SafeTime.{Promises};
 use crate::Answer;
+use crate::Counted;
 use crate::SafeTime;
+use crate::walk::unbracketed;
 use crate::walk::walk;
 use admission::Limits;
 use admission::admit_walk;
 use distance::nearest::nearest;
 
-// An answer with no walk.
-fn still(answer: Answer) -> SafeTime
-    ensures { λ r. ⌜ r ≡ told 0 (Def.still answer) ⌝ }
+// How many probes a call may make.
+const ALLOWANCE: u32 = 4096;
+
+// What the squared distance has to stay above.
+fn threshold(l: Limits) -> f32
+    ensures { λ r. ⌜ r ≡ Def.threshold l ⌝ }
 {
-    SafeTime {
-        answer,
-        probes: 0,
-        halvings: 0,
-    }
+    let park = l.offset + l.clearance;
+    park * park
 }
 
-// The safe time of numbers that are admitted.
-fn admitted(x0: [[f32; 3]; 4], dx: [[f32; 3]; 4], split: usize, l: Limits) -> SafeTime
+// An answer with no walk.
+fn still(answer: Answer) -> Counted
+    ensures { λ r. ⌜ r ≡ counted 0 (Def.still answer) ⌝ }
+{
+    let ending = unbracketed(answer, 0.0);
+    Counted { ending, probes: 0 }
+}
+
+// The walk of numbers that are admitted.
+fn admitted(
+    x0: [[f32; 3]; 4],
+    dx: [[f32; 3]; 4],
+    split: usize,
+    l: Limits,
+    allowance: u32,
+) -> Counted
     requires { ⌜ walkRefusal x0 dx split l ≡ 0 ⌝ }
-    ensures { λ r. ⌜ r ≡ Def.safeTimeOf x0 dx split l ⌝ }
+    ensures { λ r. ⌜ r ≡ counted 0 (Def.safeWalk x0 dx split l allowance) ⌝ }
 {
     let first = nearest(x0, split);
     let squared_offset = l.offset * l.offset;
@@ -37,7 +52,25 @@ fn admitted(x0: [[f32; 3]; 4], dx: [[f32; 3]; 4], split: usize, l: Limits) -> Sa
     if (first.squared <= squared_offset) | (first.squared == squared_park) {
         return still(Answer::Touching(0.0));
     }
-    walk(x0, dx, split, squared_park, l, first)
+    walk(x0, dx, split, threshold(l), l, allowance, first)
+}
+
+// The whole record of a call: how it ends, and how many of the probes allowed it makes.
+fn safe_walk(
+    x0: [[f32; 3]; 4],
+    dx: [[f32; 3]; 4],
+    split: usize,
+    limits: Limits,
+    allowance: u32,
+) -> Counted
+    ensures { λ r. ⌜ r ≡ counted 0 (Def.safeWalk x0 dx split limits allowance) ⌝ }
+{
+    let refusal = admit_walk(x0, dx, split, limits);
+    if refusal == 0 {
+        admitted(x0, dx, split, limits, allowance)
+    } else {
+        still(Answer::Refused(refusal))
+    }
 }
 
 // How far along the move dx the pair at x0 may go.
@@ -48,12 +81,13 @@ pub fn maximum_safe_time_accurate(
     limits: Limits,
 ) -> SafeTime
     ensures answer { λ r. ⌜ r ≡ Def.safeTimeOf x0 dx split limits ⌝ }
-    ensures promised { λ r. ⌜ Promises x0 dx split limits r ⌝ }
+    ensures promised { λ r. ⌜ Def.Promises x0 dx split limits r ⌝ }
 {
-    let refusal = admit_walk(x0, dx, split, limits);
-    if refusal == 0 {
-        admitted(x0, dx, split, limits)
-    } else {
-        still(Answer::Refused(refusal))
+    let c = safe_walk(x0, dx, split, limits, ALLOWANCE);
+    let ending = c.ending;
+    SafeTime {
+        answer: ending.answer,
+        probes: c.probes,
+        halvings: ending.halvings,
     }
 }

@@ -12,7 +12,7 @@ use number::root::root;
 const NORM_SLACK: f32 = 1.0000002384185791;
 
 // The length of the step from `time`, where the points are x and the distance rules say `near`.
-fn step(
+fn step_length(
     time: f32,
     x: [[f32; 3]; 4],
     near: Nearest,
@@ -20,7 +20,7 @@ fn step(
     split: usize,
     l: Limits,
 ) -> f32
-    ensures { λ r. ⌜ r ≡ Def.step dx split l (record { time = time; points = x; near = near }) ⌝ }
+    ensures { λ r. ⌜ r ≡ Def.stepFrom dx split l (record { time = time; points = x; near = near }) .length ⌝ }
 {
     let park = l.offset + l.clearance;
     let dip = l.offset + l.clearance * 0.5;
@@ -52,5 +52,5 @@ pub(crate) fn next_time(
 ) -> f32
     ensures { λ r. ⌜ r ≡ Def.next dx split l (record { time = time; points = x; near = near }) ⌝ }
 {
-    time + step(time, x, near, dx, split, l)
+    time + step_length(time, x, near, dx, split, l)
 }

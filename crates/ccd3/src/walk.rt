@@ -1,10 +1,11 @@
-// The walk from a start above the threshold (ccd3.rs: the loops of `maximum_safe_time_accurate`).
+// The walk from a start above the threshold (ccd3.rs: the loops of `maximum_safe_time_accurate`), for any threshold and
+// any number of probes allowed.
 ghost use mathlib.Core.Path.{_≡_};
 ghost use Rattle.number.specs.Number.{zero32};
 ghost use Rattle.ccd3.specs.Walk as Def;
-ghost use Rattle.ccd3.specs.SafeTime.{allowance};
 use crate::Answer;
-use crate::SafeTime;
+use crate::Counted;
+use crate::Ending;
 use crate::halving::close_in;
 use crate::step::next_time;
 use admission::Limits;
@@ -13,8 +14,42 @@ use distance::nearest::nearest;
 use geometry::mat3x4_array_of_cols::add_scaled;
 use number::order::larger;
 
-// How many probes a call may make.
-const ALLOWANCE: u32 = 4096;
+// An ending with no bracket, at a visit of this time.
+pub(crate) fn unbracketed(answer: Answer, time: f32) -> Ending
+    ensures { λ r. ⌜ r ≡ Def.unbracketed answer time ⌝ }
+{
+    Ending {
+        answer,
+        from: time,
+        to: time,
+        lower: 0.0,
+        upper: 0.0,
+        halvings: 0,
+    }
+}
+
+// The probe at `to` is not above the threshold any more: a contact between it and the time before.
+fn met(
+    x0: [[f32; 3]; 4],
+    dx: [[f32; 3]; 4],
+    split: usize,
+    threshold: f32,
+    from: f32,
+    to: f32,
+) -> Ending
+    ensures { λ r. ⌜ r ≡ Def.met x0 dx split threshold from to ⌝ }
+{
+    let closed = close_in(x0, dx, split, threshold, from, to);
+    let contact = Answer::Contact(closed.lower);
+    Ending {
+        answer: contact,
+        from,
+        to,
+        lower: closed.lower,
+        upper: closed.upper,
+        halvings: closed.count,
+    }
+}
 
 // Steps and probes, from time 0 where the distance rules say `first`, until one of the three ends.
 pub(crate) fn walk(
@@ -23,9 +58,10 @@ pub(crate) fn walk(
     split: usize,
     threshold: f32,
     l: Limits,
+    allowance: u32,
     first: Nearest,
-) -> SafeTime
-    ensures { λ r. ⌜ r ≡ Def.told 0 (Def.walk x0 dx split threshold l allowance
+) -> Counted
+    ensures { λ r. ⌜ r ≡ Def.counted 0 (Def.walk x0 dx split threshold l allowance
         (record { time = zero32; points = x0; near = first })) ⌝ }
 {
     let mut time = 0.0;
@@ -35,19 +71,17 @@ pub(crate) fn walk(
     loop {
         let next = next_time(time, x, near, dx, split, l);
         if l.max_t < next {
-            let clear = Answer::Clear(larger(0.0, l.max_t));
-            return SafeTime {
-                answer: clear,
+            let clear = unbracketed(Answer::Clear(larger(0.0, l.max_t)), time);
+            return Counted {
+                ending: clear,
                 probes,
-                halvings: 0,
             };
         }
-        if probes == ALLOWANCE {
-            let budget = Answer::Budget(time);
-            return SafeTime {
-                answer: budget,
+        if probes == allowance {
+            let budget = unbracketed(Answer::Budget(time), time);
+            return Counted {
+                ending: budget,
                 probes,
-                halvings: 0,
             };
         }
         probes += 1;
@@ -56,12 +90,10 @@ pub(crate) fn walk(
         if threshold < near.squared {
             time = next;
         } else {
-            let closed = close_in(x0, dx, split, threshold, time, next);
-            let contact = Answer::Contact(closed.lower);
-            return SafeTime {
-                answer: contact,
+            let contact = met(x0, dx, split, threshold, time, next);
+            return Counted {
+                ending: contact,
                 probes,
-                halvings: closed.count,
             };
         }
     }
