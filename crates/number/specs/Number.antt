@@ -62,12 +62,12 @@ nextUp (fin false (suc m) e) = ofBits binary32 (suc (toBits binary32 (fin false 
 nextUp (fin true (suc m) e) = ofBits binary32 (toBits binary32 (fin true (suc m) e) - 1)
 
 -- ---- the ranges that a number handed over must lie in: both ends are in, minus zero is zero, a NaN lies in none
--- 2 ^ 20, the size limit, and its negative
-abbrev pub limit : Float
-limit = ofBits binary32 0x4980_0000
+-- 2 ^ 20, the bound of what is handed over, and its negative
+abbrev pub bound : Float
+bound = ofBits binary32 0x4980_0000
 
-abbrev pub minusLimit : Float
-minusLimit = neg limit
+abbrev pub minusBound : Float
+minusBound = neg bound
 
 -- 2 ^ -60 and 2 ^ 60
 abbrev pub leastSpeed : Float
@@ -86,12 +86,12 @@ abbrev pub between : Float → Float → Float → Bool
 between low high x = le low x && le x high
 
 -- coordinates, displacements, coefficients: size at most 2 ^ 20
-abbrev pub inLimit : Float → Bool
-inLimit x = between minusLimit limit x
+abbrev pub inBound : Float → Bool
+inBound x = between minusBound bound x
 
 -- offset, clearance, epsilon, a scale factor: 0 to 2 ^ 20
-abbrev pub zeroToLimit : Float → Bool
-zeroToLimit x = between zero32 limit x
+abbrev pub zeroToBound : Float → Bool
+zeroToBound x = between zero32 bound x
 
 -- time limit, a moved point's time, a ratio: 0 to 1
 abbrev pub zeroToOne : Float → Bool
