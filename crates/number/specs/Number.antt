@@ -2,7 +2,7 @@
 -- four operations, each rounded once to nearest even, the helpers, the ranges, and what a call answers. Definitions only.
 use mathlib.Core.Bool.{true, false, cond, Bool, _&&_}
 use Prim.Native.Nat.{zero, suc, _-_, ℕ}
-use lib.Ieee.{Float, nan, inf, fin, binary32, add, sub, mul, div, lt, toBits, ofBits, le, neg}
+use lib.Ieee.{Float, nan, inf, fin, binary32, add, sub, mul, div, lt, le, eq, neg, toBits, ofBits}
 use lib.Dec.{eqb}
 use Rattle.number.specs.declared.answer.Answered.{Answered}
 use Rattle.number.specs.declared.answer.Answered.the-variants.{Value, Refused}
@@ -51,6 +51,10 @@ larger a b = cond (lt a b) b a
 -- x held to low..high
 unfoldable pub clamp : Float → Float → Float → Float
 clamp x low high = cond (lt x low) low (cond (lt high x) high x)
+
+-- a zero of either sign is written plus zero
+unfoldable pub written : Float → Float
+written x = cond (eq x zero32) zero32 x
 
 -- the least f32 above x; plus infinity and NaN have none and stand for themselves
 unfoldable pub nextUp : Float → Float
@@ -105,8 +109,16 @@ aboveZeroToOne x = lt zero32 x && le x one32
 abbrev pub speedRange : Float → Bool
 speedRange x = between leastSpeed mostSpeed x
 
--- ---- what a call answers that gives one number or refuses
--- the refusal number, 0 for none; the value, plus zero where refused
+-- ---- what a call answers
+-- 1 where some number is not finite, else 2 where something lies beyond its range, else 0: admitted
+abbrev pub refusal : Bool → Bool → ℕ
+refusal finite ranged = cond finite (cond ranged 0 2) 1
+
+-- by a refusal number: what an admitted call gives, or what a refused one does
+abbrev pub admitted {ℓ} : {A : Type ℓ} → ℕ → A → A → A
+admitted n given other = cond (eqb n 0) given other
+
+-- of an answer that is one number or a refusal: the refusal number, 0 for none; the value, plus zero where refused
 unfoldable pub refusalOf : Answered → ℕ
 refusalOf (Value v) = 0
 refusalOf (Refused n) = n
@@ -114,10 +126,6 @@ refusalOf (Refused n) = n
 unfoldable pub valueOf : Answered → Float
 valueOf (Value v) = v
 valueOf (Refused n) = zero32
-
--- by a refusal number: what an admitted call gives, or what a refused one does
-abbrev pub admitted {ℓ} : {A : Type ℓ} → ℕ → A → A → A
-admitted n given other = cond (eqb n 0) given other
 
 -- by a refusal number: the value, or the refusal
 unfoldable pub answered : ℕ → Float → Answered
