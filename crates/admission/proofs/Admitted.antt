@@ -10,13 +10,13 @@ use lib.Dec.{T, eqb, eqb→eq}
 use lib.Ieee.{Float}
 use lib.Ieee.Bits.{is-true}
 use lib.Ieee.Fits.{and-i, and-l, and-r}
-use Rattle.number.specs.Number.{isFinite, inLimit, zeroToLimit, zeroToOne, speedRange}
+use Rattle.number.specs.Number.{isFinite, inBound, zeroToBound, zeroToOne, speedRange}
 use Rattle.number.proofs.Within.{Within, within-finite}
 use Rattle.number.proofs.Finite.{is-finite}
-use Rattle.number.proofs.Ranges.{in-limit, zero-to-limit, zero-to-one, speed-range}
+use Rattle.number.proofs.Ranges.{in-bound, zero-to-bound, zero-to-one, speed-range}
 use Rattle.geometry.specs.Geometry.{at, col}
 use Rattle.admission.specs.declared.Limits.{Limits}
-use Rattle.admission.specs.Admission.{refusal, ofThree, ofTwelve, finitePoints, limitPoints, isSplit, finiteLimits, rangedLimits, finiteWalk, rangedWalk, walkRefusal, pointsRefusal, splitRefusal, factorRefusal, motionRefusal, timeRefusal, ratioRefusal}
+use Rattle.admission.specs.Admission.{refusal, ofThree, ofTwelve, finitePoints, boundedPoints, isSplit, finiteLimits, rangedLimits, finiteWalk, rangedWalk, walkRefusal, pointsRefusal, splitRefusal, factorRefusal, motionRefusal, timeRefusal, ratioRefusal}
 
 -- ---- the three numbers of a verdict
 pub refusal-none : (finite ranged : Bool) → refusal finite ranged ≡ 0 → T finite × T ranged
@@ -78,30 +78,30 @@ module _ (test : Float → Bool) where
       go (suc (suc (suc zero))) j k l = three-each (col x 3) (all .3) j l
       go (suc (suc (suc (suc i)))) j k l = absurd (omega arith)
 
--- each number of points within the limit is at most 2 ^ 20 in size
-pub points-within : (x : List (List Float)) → T (limitPoints x)
+-- each number of points within the bound is at most 2 ^ 20 in size
+pub points-within : (x : List (List Float)) → T (boundedPoints x)
     → (i j : ℕ) → i < 4 → j < 3 → Within 20 (at (col x i) j)
-unfolding limitPoints
-points-within x h i j k l = in-limit (at (col x i) j) (twelve-each inLimit x h i j k l)
+unfolding boundedPoints
+points-within x h i j k l = in-bound (at (col x i) j) (twelve-each inBound x h i j k l)
 
 -- ---- what lies in its range is finite
 pub within-real : (a : ℕ) (x : Float) → Within a x → T (isFinite x)
 within-real a x h = subst T (sym (is-finite x)) (within-finite a x h)
 
-limit-real : (x : Float) → T (inLimit x) → T (isFinite x)
-limit-real x h = within-real 20 x (in-limit x h)
+bound-real : (x : Float) → T (inBound x) → T (isFinite x)
+bound-real x h = within-real 20 x (in-bound x h)
 
-three-real : (v : List Float) → T (ofThree inLimit v) → T (ofThree isFinite v)
+three-real : (v : List Float) → T (ofThree inBound v) → T (ofThree isFinite v)
 three-real v h =
-    let t = triple (inLimit (at v 0)) (inLimit (at v 1)) (inLimit (at v 2)) h in
+    let t = triple (inBound (at v 0)) (inBound (at v 1)) (inBound (at v 2)) h in
     and-i (isFinite (at v 0) && isFinite (at v 1)) (isFinite (at v 2))
-    (and-i (isFinite (at v 0)) (isFinite (at v 1)) (limit-real (at v 0) (t .0)) (limit-real (at v 1) (t .1)))
-    (limit-real (at v 2) (t .2))
+    (and-i (isFinite (at v 0)) (isFinite (at v 1)) (bound-real (at v 0) (t .0)) (bound-real (at v 1) (t .1)))
+    (bound-real (at v 2) (t .2))
 
-pub points-real : (x : List (List Float)) → T (limitPoints x) → T (finitePoints x)
-unfolding limitPoints finitePoints
+pub points-real : (x : List (List Float)) → T (boundedPoints x) → T (finitePoints x)
+unfolding boundedPoints finitePoints
 points-real x h =
-    let range : ℕ → Bool = λ i. ofThree inLimit (col x i) in
+    let range : ℕ → Bool = λ i. ofThree inBound (col x i) in
     let real : ℕ → Bool = λ i. ofThree isFinite (col x i) in
     let q = quadruple (range 0) (range 1) (range 2) (range 3) h in
     and-i (real 0 && real 1 && real 2) (real 3)
@@ -109,11 +109,11 @@ points-real x h =
     (and-i (real 0) (real 1) (three-real (col x 0) (q .0)) (three-real (col x 1) (q .1)))
     (three-real (col x 2) (q .2))) (three-real (col x 3) (q .3))
 
-pub pair-real : (x dx : List (List Float)) → T (limitPoints x && limitPoints dx)
+pub pair-real : (x dx : List (List Float)) → T (boundedPoints x && boundedPoints dx)
     → T (finitePoints x && finitePoints dx)
 pair-real x dx h =
-    and-i (finitePoints x) (finitePoints dx) (points-real x (and-l (limitPoints x) (limitPoints dx) h))
-    (points-real dx (and-r (limitPoints x) (limitPoints dx) h))
+    and-i (finitePoints x) (finitePoints dx) (points-real x (and-l (boundedPoints x) (boundedPoints dx) h))
+    (points-real dx (and-r (boundedPoints x) (boundedPoints dx) h))
 
 pub one-real : (t : Float) → T (zeroToOne t) → T (isFinite t)
 one-real t h = within-real 0 t (zero-to-one t h .2)
@@ -125,11 +125,11 @@ limits-real l h =
     let c = l .clearance in
     let t = l .«max_t» in
     let u = l .«u_max» in
-    let q = quadruple (zeroToLimit o) (zeroToLimit c) (zeroToOne t) (speedRange u) h in
+    let q = quadruple (zeroToBound o) (zeroToBound c) (zeroToOne t) (speedRange u) h in
     and-i (isFinite o && isFinite c && isFinite t) (isFinite u)
     (and-i (isFinite o && isFinite c) (isFinite t)
-    (and-i (isFinite o) (isFinite c) (within-real 20 o (zero-to-limit o (q .0) .1))
-    (within-real 20 c (zero-to-limit c (q .1) .1))) (one-real t (q .2)))
+    (and-i (isFinite o) (isFinite c) (within-real 20 o (zero-to-bound o (q .0) .1))
+    (within-real 20 c (zero-to-bound c (q .1) .1))) (one-real t (q .2)))
     (within-real 60 u (speed-range u (q .3) .2))
 
 -- ---- the split
@@ -143,10 +143,10 @@ split-parts split h = go (eqb split 2) (eqb split 3) (eqb→eq split 2) (eqb→e
 
 -- ---- the safe time
 pub record Walkable (x dx : List (List Float)) (split : ℕ) (l : Limits) : Type 0 where
-  pub points : T (limitPoints x)
-  pub displacements : T (limitPoints dx)
-  pub offset : T (zeroToLimit (l .offset))
-  pub clearance : T (zeroToLimit (l .clearance))
+  pub points : T (boundedPoints x)
+  pub displacements : T (boundedPoints dx)
+  pub offset : T (zeroToBound (l .offset))
+  pub clearance : T (zeroToBound (l .clearance))
   pub max-t : T (zeroToOne (l .«max_t»))
   pub u-max : T (speedRange (l .«u_max»))
   pub parts : (split ≡ 2) ⊎ (split ≡ 3)
@@ -156,9 +156,9 @@ module _ (x dx : List (List Float)) (split : ℕ) (l : Limits) where
   unfolding walkRefusal rangedLimits
   walk-admits e =
       let r = refusal-none (finiteWalk x dx l) (rangedWalk x dx split l) e .1 in
-      let q = quadruple (limitPoints x) (limitPoints dx) (rangedLimits l) (isSplit split) r in
+      let q = quadruple (boundedPoints x) (boundedPoints dx) (rangedLimits l) (isSplit split) r in
       let p =
-      quadruple (zeroToLimit (l .offset)) (zeroToLimit (l .clearance)) (zeroToOne (l .«max_t»))
+      quadruple (zeroToBound (l .offset)) (zeroToBound (l .clearance)) (zeroToOne (l .«max_t»))
       (speedRange (l .«u_max»)) (q .2)
       in
       record {
@@ -173,9 +173,9 @@ module _ (x dx : List (List Float)) (split : ℕ) (l : Limits) where
 
   pub walk-real : T (rangedWalk x dx split l) → T (finiteWalk x dx l)
   walk-real h =
-      let q = quadruple (limitPoints x) (limitPoints dx) (rangedLimits l) (isSplit split) h in
+      let q = quadruple (boundedPoints x) (boundedPoints dx) (rangedLimits l) (isSplit split) h in
       and-i (finitePoints x && finitePoints dx) (finiteLimits l)
-      (pair-real x dx (and-i (limitPoints x) (limitPoints dx) (q .0) (q .1))) (limits-real l (q .2))
+      (pair-real x dx (and-i (boundedPoints x) (boundedPoints dx) (q .0) (q .1))) (limits-real l (q .2))
 
   -- in its range: admitted; beyond it: the verdict on finite numbers alone
   pub walk-none : rangedWalk x dx split l ≡ true → 0 ≡ walkRefusal x dx split l
@@ -196,44 +196,44 @@ module _ (x dx : List (List Float)) (split : ℕ) (l : Limits) where
 
 -- ---- the calls on points
 module _ (x : List (List Float)) where
-  pub points-admits : pointsRefusal x ≡ 0 → T (limitPoints x)
+  pub points-admits : pointsRefusal x ≡ 0 → T (boundedPoints x)
   unfolding pointsRefusal
-  points-admits e = refusal-none (finitePoints x) (limitPoints x) e .1
+  points-admits e = refusal-none (finitePoints x) (boundedPoints x) e .1
 
-  pub split-admits : (split : ℕ) → splitRefusal x split ≡ 0 → T (limitPoints x) × T (isSplit split)
+  pub split-admits : (split : ℕ) → splitRefusal x split ≡ 0 → T (boundedPoints x) × T (isSplit split)
   unfolding splitRefusal
   split-admits split e =
-      let r = refusal-none (finitePoints x) (limitPoints x && isSplit split) e .1 in
-      (and-l (limitPoints x) (isSplit split) r, and-r (limitPoints x) (isSplit split) r)
+      let r = refusal-none (finitePoints x) (boundedPoints x && isSplit split) e .1 in
+      (and-l (boundedPoints x) (isSplit split) r, and-r (boundedPoints x) (isSplit split) r)
 
-  pub factor-admits : (s : Float) → factorRefusal x s ≡ 0 → T (limitPoints x) × T (zeroToLimit s)
+  pub factor-admits : (s : Float) → factorRefusal x s ≡ 0 → T (boundedPoints x) × T (zeroToBound s)
   unfolding factorRefusal
   factor-admits s e =
-      let r = refusal-none (finitePoints x && isFinite s) (limitPoints x && zeroToLimit s) e .1 in
-      (and-l (limitPoints x) (zeroToLimit s) r, and-r (limitPoints x) (zeroToLimit s) r)
+      let r = refusal-none (finitePoints x && isFinite s) (boundedPoints x && zeroToBound s) e .1 in
+      (and-l (boundedPoints x) (zeroToBound s) r, and-r (boundedPoints x) (zeroToBound s) r)
 
-  pub motion-admits : (dx : List (List Float)) → motionRefusal x dx ≡ 0 → T (limitPoints x) × T (limitPoints dx)
+  pub motion-admits : (dx : List (List Float)) → motionRefusal x dx ≡ 0 → T (boundedPoints x) × T (boundedPoints dx)
   unfolding motionRefusal
   motion-admits dx e =
-      let r = refusal-none (finitePoints x && finitePoints dx) (limitPoints x && limitPoints dx) e .1 in
-      (and-l (limitPoints x) (limitPoints dx) r, and-r (limitPoints x) (limitPoints dx) r)
+      let r = refusal-none (finitePoints x && finitePoints dx) (boundedPoints x && boundedPoints dx) e .1 in
+      (and-l (boundedPoints x) (boundedPoints dx) r, and-r (boundedPoints x) (boundedPoints dx) r)
 
   pub motion-first : (dx : List (List Float)) → (motionRefusal x dx ≡ 1) ↔ T (not (finitePoints x && finitePoints dx))
   unfolding motionRefusal
-  motion-first dx = refusal-first (finitePoints x && finitePoints dx) (limitPoints x && limitPoints dx)
+  motion-first dx = refusal-first (finitePoints x && finitePoints dx) (boundedPoints x && boundedPoints dx)
 
   pub time-admits : (dx : List (List Float)) (t : Float) → timeRefusal x dx t ≡ 0
-      → T (limitPoints x) × T (limitPoints dx) × T (zeroToOne t)
+      → T (boundedPoints x) × T (boundedPoints dx) × T (zeroToOne t)
   unfolding timeRefusal
   time-admits dx t e =
       let f = finitePoints x && finitePoints dx && isFinite t in
-      let r = limitPoints x && limitPoints dx && zeroToOne t in
-      triple (limitPoints x) (limitPoints dx) (zeroToOne t) (refusal-none f r e .1)
+      let r = boundedPoints x && boundedPoints dx && zeroToOne t in
+      triple (boundedPoints x) (boundedPoints dx) (zeroToOne t) (refusal-none f r e .1)
 
 pub ratio-admits : (p q : List Float) (s : Float) → ratioRefusal p q s ≡ 0
-    → T (ofThree inLimit p) × T (ofThree inLimit q) × T (zeroToOne s)
+    → T (ofThree inBound p) × T (ofThree inBound q) × T (zeroToOne s)
 unfolding ratioRefusal
 ratio-admits p q s e =
     let f = ofThree isFinite p && ofThree isFinite q && isFinite s in
-    let r = ofThree inLimit p && ofThree inLimit q && zeroToOne s in
-    triple (ofThree inLimit p) (ofThree inLimit q) (zeroToOne s) (refusal-none f r e .1)
+    let r = ofThree inBound p && ofThree inBound q && zeroToOne s in
+    triple (ofThree inBound p) (ofThree inBound q) (zeroToOne s) (refusal-none f r e .1)

@@ -5,7 +5,7 @@ use mathlib.Core.Bool.{Bool, cond, _&&_, _||_}
 use mathlib.Core.List.{List}
 use lib.Dec.{eqb}
 use lib.Ieee.{Float}
-use Rattle.number.specs.Number.{isFinite, inLimit, zeroToLimit, zeroToOne, speedRange}
+use Rattle.number.specs.Number.{isFinite, inBound, zeroToBound, zeroToOne, speedRange}
 use Rattle.geometry.specs.Geometry.{at, col}
 use Rattle.admission.specs.declared.Limits.{Limits}
 
@@ -24,8 +24,8 @@ ofTwelve test x =
 unfoldable pub finitePoints : List (List Float) → Bool
 finitePoints x = ofTwelve isFinite x
 
-unfoldable pub limitPoints : List (List Float) → Bool
-limitPoints x = ofTwelve inLimit x
+unfoldable pub boundedPoints : List (List Float) → Bool
+boundedPoints x = ofTwelve inBound x
 
 -- two points against two, or three against one
 abbrev pub isSplit : ℕ → Bool
@@ -37,40 +37,40 @@ finiteLimits l = isFinite (l .offset) && isFinite (l .clearance) && isFinite (l 
 
 unfoldable pub rangedLimits : Limits → Bool
 rangedLimits l =
-    zeroToLimit (l .offset) && zeroToLimit (l .clearance) && zeroToOne (l .«max_t») && speedRange (l .«u_max»)
+    zeroToBound (l .offset) && zeroToBound (l .clearance) && zeroToOne (l .«max_t») && speedRange (l .«u_max»)
 
 -- a safe time: the 24 numbers of a pair, its split, its limits
 abbrev pub finiteWalk : List (List Float) → List (List Float) → Limits → Bool
 finiteWalk x dx l = finitePoints x && finitePoints dx && finiteLimits l
 
 abbrev pub rangedWalk : List (List Float) → List (List Float) → ℕ → Limits → Bool
-rangedWalk x dx split l = limitPoints x && limitPoints dx && rangedLimits l && isSplit split
+rangedWalk x dx split l = boundedPoints x && boundedPoints dx && rangedLimits l && isSplit split
 
 unfoldable pub walkRefusal : List (List Float) → List (List Float) → ℕ → Limits → ℕ
 walkRefusal x dx split l = refusal (finiteWalk x dx l) (rangedWalk x dx split l)
 
 -- four points; four points and their split, as a norm and a distance take them
 unfoldable pub pointsRefusal : List (List Float) → ℕ
-pointsRefusal x = refusal (finitePoints x) (limitPoints x)
+pointsRefusal x = refusal (finitePoints x) (boundedPoints x)
 
 unfoldable pub splitRefusal : List (List Float) → ℕ → ℕ
-splitRefusal x split = refusal (finitePoints x) (limitPoints x && isSplit split)
+splitRefusal x split = refusal (finitePoints x) (boundedPoints x && isSplit split)
 
 -- four points and a factor of 0 to 2 ^ 20
 unfoldable pub factorRefusal : List (List Float) → Float → ℕ
-factorRefusal x s = refusal (finitePoints x && isFinite s) (limitPoints x && zeroToLimit s)
+factorRefusal x s = refusal (finitePoints x && isFinite s) (boundedPoints x && zeroToBound s)
 
 -- a pair's 24 numbers: coplanar times
 unfoldable pub motionRefusal : List (List Float) → List (List Float) → ℕ
-motionRefusal x dx = refusal (finitePoints x && finitePoints dx) (limitPoints x && limitPoints dx)
+motionRefusal x dx = refusal (finitePoints x && finitePoints dx) (boundedPoints x && boundedPoints dx)
 
 -- a pair's 24 numbers and a time of 0 to 1: moved points, scaling
 unfoldable pub timeRefusal : List (List Float) → List (List Float) → Float → ℕ
 timeRefusal x dx t =
-    refusal (finitePoints x && finitePoints dx && isFinite t) (limitPoints x && limitPoints dx && zeroToOne t)
+    refusal (finitePoints x && finitePoints dx && isFinite t) (boundedPoints x && boundedPoints dx && zeroToOne t)
 
 -- the ends of a segment and a ratio of 0 to 1
 unfoldable pub ratioRefusal : List Float → List Float → Float → ℕ
 ratioRefusal p q s =
     refusal (ofThree isFinite p && ofThree isFinite q && isFinite s)
-    (ofThree inLimit p && ofThree inLimit q && zeroToOne s)
+    (ofThree inBound p && ofThree inBound q && zeroToOne s)

@@ -4,9 +4,9 @@
 ghost use mathlib.Core.Path.{_≡_};
 ghost use Rattle.admission.specs.Admission as Def;
 use crate::points::points_finite;
-use crate::points::points_in_limit;
+use crate::points::points_in_bound;
 use crate::points::three_finite;
-use crate::points::three_in_limit;
+use crate::points::three_in_bound;
 use number::range;
 
 // The numbers of points.
@@ -51,8 +51,8 @@ fn limits_finite(limits: Limits) -> bool
 fn limits_ranged(limits: Limits) -> bool
     ensures { λ r. ⌜ r ≡ Def.rangedLimits limits ⌝ }
 {
-    range::zero_to_limit(limits.offset)
-        & range::zero_to_limit(limits.clearance)
+    range::zero_to_bound(limits.offset)
+        & range::zero_to_bound(limits.clearance)
         & range::zero_to_one(limits.max_t)
         & range::speed_range(limits.u_max)
 }
@@ -62,7 +62,7 @@ fn limits_ranged(limits: Limits) -> bool
 pub fn admit_walk(x0: [[f32; 3]; 4], dx: [[f32; 3]; 4], split: usize, limits: Limits) -> u32
     ensures { λ r. ⌜ r ≡ Def.walkRefusal x0 dx split limits ⌝ }
 {
-    if points_in_limit(x0) & points_in_limit(dx) & limits_ranged(limits) & is_split(split) {
+    if points_in_bound(x0) & points_in_bound(dx) & limits_ranged(limits) & is_split(split) {
         return 0;
     }
     verdict(
@@ -75,14 +75,14 @@ pub fn admit_walk(x0: [[f32; 3]; 4], dx: [[f32; 3]; 4], split: usize, limits: Li
 pub fn admit_points(x: [[f32; 3]; 4]) -> u32
     ensures { λ r. ⌜ r ≡ Def.pointsRefusal x ⌝ }
 {
-    verdict(points_finite(x), points_in_limit(x))
+    verdict(points_finite(x), points_in_bound(x))
 }
 
 // Four points and their split: the norm, the distance. Ranges first, as of the walk.
 pub fn admit_split(x: [[f32; 3]; 4], split: usize) -> u32
     ensures { λ r. ⌜ r ≡ Def.splitRefusal x split ⌝ }
 {
-    if points_in_limit(x) & is_split(split) {
+    if points_in_bound(x) & is_split(split) {
         return 0;
     }
     verdict(points_finite(x), false)
@@ -94,7 +94,7 @@ pub fn admit_factor(x: [[f32; 3]; 4], s: f32) -> u32
 {
     verdict(
         points_finite(x) & range::is_finite(s),
-        points_in_limit(x) & range::zero_to_limit(s),
+        points_in_bound(x) & range::zero_to_bound(s),
     )
 }
 
@@ -102,7 +102,7 @@ pub fn admit_factor(x: [[f32; 3]; 4], s: f32) -> u32
 pub fn admit_motion(x: [[f32; 3]; 4], dx: [[f32; 3]; 4]) -> u32
     ensures { λ r. ⌜ r ≡ Def.motionRefusal x dx ⌝ }
 {
-    if points_in_limit(x) & points_in_limit(dx) {
+    if points_in_bound(x) & points_in_bound(dx) {
         return 0;
     }
     verdict(points_finite(x) & points_finite(dx), false)
@@ -112,7 +112,7 @@ pub fn admit_motion(x: [[f32; 3]; 4], dx: [[f32; 3]; 4]) -> u32
 pub fn admit_time(x: [[f32; 3]; 4], dx: [[f32; 3]; 4], t: f32) -> u32
     ensures { λ r. ⌜ r ≡ Def.timeRefusal x dx t ⌝ }
 {
-    if points_in_limit(x) & points_in_limit(dx) & range::zero_to_one(t) {
+    if points_in_bound(x) & points_in_bound(dx) & range::zero_to_one(t) {
         return 0;
     }
     verdict(
@@ -127,6 +127,6 @@ pub fn admit_ratio(p0: [f32; 3], p1: [f32; 3], ratio: f32) -> u32
 {
     verdict(
         three_finite(p0) & three_finite(p1) & range::is_finite(ratio),
-        three_in_limit(p0) & three_in_limit(p1) & range::zero_to_one(ratio),
+        three_in_bound(p0) & three_in_bound(p1) & range::zero_to_one(ratio),
     )
 }

@@ -12,7 +12,7 @@ use lib.Ieee.Fits.{add-fits, mul-fits, div-fits, cond-fits, and-l, and-r}
 use lib.Ieee.Bits.{ofBits-fits}
 use lib.Ieee.Positive.{positive}
 use lib.Ieee.Scale.{finite}
-use Rattle.number.specs.Number.{_⊕_, _⊖_, _⊗_, _⊘_, zero32, half32, one32, largest32, smaller, larger, limit, zeroToLimit, speedRange}
+use Rattle.number.specs.Number.{_⊕_, _⊖_, _⊗_, _⊘_, zero32, half32, one32, largest32, smaller, larger, bound, zeroToBound, speedRange}
 use Rattle.number.specs.Root.{rootOf}
 use Rattle.number.proofs.Later.{later-any}
 use Rattle.number.proofs.Quotients.{div-within}
@@ -20,7 +20,7 @@ use Rattle.number.proofs.Signs.{plus-up, square-plus, sum-plus, product-plus, q
 use Rattle.number.proofs.SquareRoot.Bounds.{RootUnits, root-facts, root-within}
 use Rattle.number.proofs.Units.{Unit32, plus, of-float}
 use Rattle.number.proofs.Units.Compared.{Is, lt-says, says-lt, le-says}
-use Rattle.number.proofs.Ranges.{zero-to-limit, speed-range}
+use Rattle.number.proofs.Ranges.{zero-to-bound, speed-range}
 use Rattle.number.proofs.Within.{Within, within-finite, within-more, add-within, sub-within, mul-within}
 use Rattle.geometry.specs.Geometry.{dot, Cross, crossPairs}
 use Rattle.admission.specs.declared.Limits.{Limits}
@@ -93,18 +93,18 @@ directional-fits x dx split a =
     least-fits x dx a (crossPairs (twoOrThree split)) largest32 (ofBits-fits binary32 0x7f7f_ffff)
 
 -- ---- the plain step
-from-zero : (x : Float) → T (zeroToLimit x) → T (le zero32 x)
-from-zero x h = and-l (le zero32 x) (le x limit) h
+from-zero : (x : Float) → T (zeroToBound x) → T (le zero32 x)
+from-zero x h = and-l (le zero32 x) (le x bound) h
 
-limit-is : Is limit Most
+limit-is : Is bound Most
 unfolding ofBits
 limit-is = refl
 
 -- a number from 0 to 2 ^ 20, in units
-limited : (x : Float) → T (fits binary32 x) → T (zeroToLimit x) → (u : ℕ) × Unit32 x u × (u ≤ Most)
+limited : (x : Float) → T (fits binary32 x) → T (zeroToBound x) → (u : ℕ) × Unit32 x u × (u ≤ Most)
 limited x f h =
-    let i = of-float x f (within-finite 20 x (zero-to-limit x h .1)) (from-zero x h) in
-    (i .0, i .1, le-says x limit (i .0) Most (i .1 .is) limit-is (and-r (le zero32 x) (le x limit) h))
+    let i = of-float x f (within-finite 20 x (zero-to-bound x h .1)) (from-zero x h) in
+    (i .0, i .1, le-says x bound (i .0) Most (i .1 .is) limit-is (and-r (le zero32 x) (le x bound) h))
 
 positive-of : (u : Float) → T (lt zero32 u) → T (finite u) → T (positive u)
 unfolding lt ofBits
@@ -135,20 +135,20 @@ half-within = lit≤ tt
 pub record Given (l : Limits) : Type 0 where
   pub offset-fits : T (fits binary32 (l .offset))
   pub clearance-fits : T (fits binary32 (l .clearance))
-  pub offset-in : T (zeroToLimit (l .offset))
-  pub clearance-in : T (zeroToLimit (l .clearance))
+  pub offset-in : T (zeroToBound (l .offset))
+  pub clearance-in : T (zeroToBound (l .clearance))
   pub speed-in : T (speedRange (l .«u_max»))
 
 module _ (l : Limits) (g : Given l) where
   dip-within : Within 21 (dip l)
   dip-within =
-      add-within 20 (l .offset) (l .clearance ⊗ half32) (lit≤ tt) (zero-to-limit (l .offset) (g .offset-in) .1)
-      (mul-within 20 0 (l .clearance) half32 (lit≤ tt) (zero-to-limit (l .clearance) (g .clearance-in) .1) half-within)
+      add-within 20 (l .offset) (l .clearance ⊗ half32) (lit≤ tt) (zero-to-bound (l .offset) (g .offset-in) .1)
+      (mul-within 20 0 (l .clearance) half32 (lit≤ tt) (zero-to-bound (l .clearance) (g .clearance-in) .1) half-within)
 
   park-within : Within 21 (park l)
   park-within =
-      add-within 20 (l .offset) (l .clearance) (lit≤ tt) (zero-to-limit (l .offset) (g .offset-in) .1)
-      (zero-to-limit (l .clearance) (g .clearance-in) .1)
+      add-within 20 (l .offset) (l .clearance) (lit≤ tt) (zero-to-bound (l .offset) (g .offset-in) .1)
+      (zero-to-bound (l .clearance) (g .clearance-in) .1)
 
   square-units : (a : ℕ) (x : Float) → a + a ≤ 127 → Within a x → (u : ℕ) × Unit32 (x ⊗ x) u
   square-units a x small h =
@@ -159,7 +159,7 @@ module _ (l : Limits) (g : Given l) where
   squared-park = square-units 21 (park l) (lit≤ tt) park-within
 
   pub squared-offset : (u : ℕ) × Unit32 (l .offset ⊗ l .offset) u
-  squared-offset = square-units 20 (l .offset) (lit≤ tt) (zero-to-limit (l .offset) (g .offset-in) .1)
+  squared-offset = square-units 20 (l .offset) (lit≤ tt) (zero-to-bound (l .offset) (g .offset-in) .1)
 
 module _ (l : Limits) (g : Given l) (d : Float) (s : Sound d) (above : T (lt (park l ⊗ park l) d)) where
   own : (v : ℕ) × Unit32 d v

@@ -19,7 +19,7 @@ use Rattle.polynomial_root.specs.declared.cubic.Cubic.{Cubic}
 use Rattle.polynomial_root.specs.Quadratic as Made
 use Rattle.polynomial_root.specs.Finder.{finiteCubic, allowedCubic, admitted, cubicRootsInRange}
 use Rattle.polynomial_root.specs.Cubic.{cubicRoots}
-use Rattle.admission.specs.Admission.{finitePoints, limitPoints, motionRefusal}
+use Rattle.admission.specs.Admission.{finitePoints, boundedPoints, motionRefusal}
 use Rattle.admission.proofs.Admitted.{within-real, points-within, motion-admits, motion-first}
 use Rattle.motion.specs.Coplanar.{volume, edge, motionCubic, coplanarTimes}
 use Rattle.motion.proofs.Refusals.{cubic-refusal}
@@ -31,7 +31,7 @@ record Edge (v : List Float) : Type 0 where
 record Product (x : Float) : Type 0 where
   pub size : Within 66 x
 
-edge-small : (x : List (List Float)) → T (limitPoints x) → (i : ℕ) → i < 4 → Edge (edge x i)
+edge-small : (x : List (List Float)) → T (boundedPoints x) → (i : ℕ) → i < 4 → Edge (edge x i)
 edge-small x h i l = record {
   each =
       minus-within 20 (col x i) (col x 0) (lit≤ tt) (col-within 20 i x l (points-within x h))

@@ -25,7 +25,7 @@ edge x i = minus (col x i) (col x 0)
 unfoldable pub motionCubic : List (List Float) → List (List Float) → Cubic
 motionCubic x dx = volume (edge x 1) (edge x 2) (edge x 3) (edge dx 1) (edge dx 2) (edge dx 3)
 
--- the roots of that cubic in 0..1, with epsilon 0; a coefficient beyond the limit is refused by 2
+-- the roots of that cubic in 0..1, with epsilon 0; a coefficient beyond the bound is refused by 2
 unfoldable pub coplanarTimes : List (List Float) → List (List Float) → Roots
 coplanarTimes x dx =
     admitted (motionRefusal x dx) (cubicRootsInRange (motionCubic x dx) one32 zero32) (refused (motionRefusal x dx))

@@ -17,16 +17,16 @@ use Rattle.admission.specs.Admission.{finitePoints, timeRefusal}
 
 -- ---- the factors
 -- the largest so far, after |x| and |x + t dx| at one place, and at the three places of a column
-unfoldable pub reach : Float → Float → Float → Float → Float
-reach t most x dx = larger (larger most (size x)) (size (x ⊕ t ⊗ dx))
+unfoldable pub largerEntry : Float → Float → Float → Float → Float
+largerEntry t most x dx = larger (larger most (size x)) (size (x ⊕ t ⊗ dx))
 
-abbrev pub reachColumn : Float → Float → List Float → List Float → Float
-reachColumn t most v d = reach t (reach t (reach t most (at v 0) (at d 0)) (at v 1) (at d 1)) (at v 2) (at d 2)
+abbrev pub largerColumn : Float → Float → List Float → List Float → Float
+largerColumn t most v d = largerEntry t (largerEntry t (largerEntry t most (at v 0) (at d 0)) (at v 1) (at d 1)) (at v 2) (at d 2)
 
 -- max_entry: the largest over the twelve places
 unfoldable pub maxEntry : List (List Float) → List (List Float) → Float → Float
 maxEntry x dx t =
-    foldl (λ (most : Float) (i : ℕ). reachColumn t most (col x i) (col dx i)) zero32 (count 0 4)
+    foldl (λ (most : Float) (i : ℕ). largerColumn t most (col x i) (col dx i)) zero32 (count 0 4)
 
 abbrev pub eight32 : Float
 eight32 = ofBits binary32 0x4100_0000

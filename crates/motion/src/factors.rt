@@ -16,8 +16,8 @@ pub(crate) struct Factors {
 }
 
 // The largest so far, after |x| and |x + max_t dx|.
-fn reach(most: f32, x: f32, dx: f32, max_t: f32) -> f32
-    ensures { λ r. ⌜ r ≡ Def.reach «max_t» most x dx ⌝ }
+fn larger_entry(most: f32, x: f32, dx: f32, max_t: f32) -> f32
+    ensures { λ r. ⌜ r ≡ Def.largerEntry «max_t» most x dx ⌝ }
 {
     order::larger(
         order::larger(most, order::size(x)),
@@ -26,12 +26,12 @@ fn reach(most: f32, x: f32, dx: f32, max_t: f32) -> f32
 }
 
 // The same over a column.
-fn reach_column(most: f32, v: [f32; 3], d: [f32; 3], max_t: f32) -> f32
-    ensures { λ r. ⌜ r ≡ Def.reachColumn «max_t» most v d ⌝ }
+fn larger_column(most: f32, v: [f32; 3], d: [f32; 3], max_t: f32) -> f32
+    ensures { λ r. ⌜ r ≡ Def.largerColumn «max_t» most v d ⌝ }
 {
-    let a = reach(most, v[0], d[0], max_t);
-    let b = reach(a, v[1], d[1], max_t);
-    reach(b, v[2], d[2], max_t)
+    let a = larger_entry(most, v[0], d[0], max_t);
+    let b = larger_entry(a, v[1], d[1], max_t);
+    larger_entry(b, v[2], d[2], max_t)
 }
 
 // The largest size over the twelve places, at time 0 and at max_t.
@@ -42,7 +42,7 @@ pub(crate) fn max_entry(x: [[f32; 3]; 4], dx: [[f32; 3]; 4], max_t: f32) -> f32
     for i in 0..4 {
         let v = x[i];
         let d = dx[i];
-        most = reach_column(most, v, d, max_t);
+        most = larger_column(most, v, d, max_t);
     }
     most
 }

@@ -1,5 +1,5 @@
 // Scaling a pair (docs/01-scope.md, "Scaling a pair"; ccd3.rs: `normalize_centerized_configuration`): its numbers are
-// multiplied by 8 and at last by a factor of at most 8, so that the largest that the motion reaches is about 0.99.
+// multiplied by 8 and at last by a factor of at most 8, so that the largest, at time 0 or at max_t, is about 0.99.
 ghost use mathlib.Core.Path.{_≡_};
 ghost use Rattle.motion.specs.Scaling as Def;
 use crate::factors::Factors;

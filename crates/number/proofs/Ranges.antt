@@ -12,7 +12,7 @@ use lib.Pow.{pow-add}
 use lib.Ieee.{Float, inf, fin, binary32, up, down, neg, lt, le, ofBits, nan}
 use lib.Ieee.Fits.{and-l, and-r, down-pos}
 use lib.Ieee.Scale.{finite}
-use Rattle.number.specs.Number.{zero32, one32, limit, minusLimit, leastSpeed, mostSpeed, inLimit, zeroToLimit, zeroToOne, aboveZeroToOne, speedRange}
+use Rattle.number.specs.Number.{zero32, one32, bound, minusBound, leastSpeed, mostSpeed, inBound, zeroToBound, zeroToOne, aboveZeroToOne, speedRange}
 use Rattle.number.proofs.Units.{L}
 use Rattle.number.proofs.Within.{Within, within-finite, units-within}
 use Rattle.number.proofs.Quotients.{AtLeast}
@@ -135,16 +135,16 @@ above-least (fin true m e) h =
     some d h e = omega arith
 
 -- ---- the tests
-pub in-limit : (x : Float) → T (inLimit x) → Within 20 x
+pub in-bound : (x : Float) → T (inBound x) → Within 20 x
 unfolding ofBits neg
-in-limit x h =
-    within-tests 20 x (and-l (le minusLimit x) (le x limit) h) (and-r (le minusLimit x) (le x limit) h)
+in-bound x h =
+    within-tests 20 x (and-l (le minusBound x) (le x bound) h) (and-r (le minusBound x) (le x bound) h)
 
-pub zero-to-limit : (x : Float) → T (zeroToLimit x) → T (le zero32 x) × Within 20 x
+pub zero-to-bound : (x : Float) → T (zeroToBound x) → T (le zero32 x) × Within 20 x
 unfolding ofBits
-zero-to-limit x h =
-    let low = and-l (le zero32 x) (le x limit) h in
-    (low, within-above 20 x low (and-r (le zero32 x) (le x limit) h))
+zero-to-bound x h =
+    let low = and-l (le zero32 x) (le x bound) h in
+    (low, within-above 20 x low (and-r (le zero32 x) (le x bound) h))
 
 pub zero-to-one : (x : Float) → T (zeroToOne x) → T (le zero32 x) × T (le x one32) × Within 0 x
 unfolding ofBits

@@ -2,7 +2,7 @@
 -- four operations, each rounded once to nearest even, the helpers, the ranges, and what a call answers. Definitions only.
 use mathlib.Core.Bool.{true, false, cond, Bool, _&&_}
 use Prim.Native.Nat.{zero, suc, _-_, ℕ}
-use lib.Ieee.{Float, nan, inf, fin, binary32, add, sub, mul, div, lt, toBits, ofBits, le, neg}
+use lib.Ieee.{Float, nan, inf, fin, binary32, add, sub, mul, div, lt, le, eq, neg, toBits, ofBits}
 use lib.Dec.{eqb}
 use Rattle.number.specs.declared.answer.Answered.{Answered}
 use Rattle.number.specs.declared.answer.Answered.the-variants.{Value, Refused}
@@ -52,6 +52,10 @@ larger a b = cond (lt a b) b a
 unfoldable pub clamp : Float → Float → Float → Float
 clamp x low high = cond (lt x low) low (cond (lt high x) high x)
 
+-- a zero of either sign is written plus zero
+unfoldable pub written : Float → Float
+written x = cond (eq x zero32) zero32 x
+
 -- the least f32 above x; plus infinity and NaN have none and stand for themselves
 unfoldable pub nextUp : Float → Float
 nextUp nan = nan
@@ -62,12 +66,12 @@ nextUp (fin false (suc m) e) = ofBits binary32 (suc (toBits binary32 (fin false 
 nextUp (fin true (suc m) e) = ofBits binary32 (toBits binary32 (fin true (suc m) e) - 1)
 
 -- ---- the ranges that a number handed over must lie in: both ends are in, minus zero is zero, a NaN lies in none
--- 2 ^ 20, the size limit, and its negative
-abbrev pub limit : Float
-limit = ofBits binary32 0x4980_0000
+-- 2 ^ 20, the bound of what is handed over, and its negative
+abbrev pub bound : Float
+bound = ofBits binary32 0x4980_0000
 
-abbrev pub minusLimit : Float
-minusLimit = neg limit
+abbrev pub minusBound : Float
+minusBound = neg bound
 
 -- 2 ^ -60 and 2 ^ 60
 abbrev pub leastSpeed : Float
@@ -86,12 +90,12 @@ abbrev pub between : Float → Float → Float → Bool
 between low high x = le low x && le x high
 
 -- coordinates, displacements, coefficients: size at most 2 ^ 20
-abbrev pub inLimit : Float → Bool
-inLimit x = between minusLimit limit x
+abbrev pub inBound : Float → Bool
+inBound x = between minusBound bound x
 
 -- offset, clearance, epsilon, a scale factor: 0 to 2 ^ 20
-abbrev pub zeroToLimit : Float → Bool
-zeroToLimit x = between zero32 limit x
+abbrev pub zeroToBound : Float → Bool
+zeroToBound x = between zero32 bound x
 
 -- time limit, a moved point's time, a ratio: 0 to 1
 abbrev pub zeroToOne : Float → Bool
@@ -105,8 +109,16 @@ aboveZeroToOne x = lt zero32 x && le x one32
 abbrev pub speedRange : Float → Bool
 speedRange x = between leastSpeed mostSpeed x
 
--- ---- what a call answers that gives one number or refuses
--- the refusal number, 0 for none; the value, plus zero where refused
+-- ---- what a call answers
+-- 1 where some number is not finite, else 2 where something lies beyond its range, else 0: admitted
+abbrev pub refusal : Bool → Bool → ℕ
+refusal finite ranged = cond finite (cond ranged 0 2) 1
+
+-- by a refusal number: what an admitted call gives, or what a refused one does
+abbrev pub admitted {ℓ} : {A : Type ℓ} → ℕ → A → A → A
+admitted n given other = cond (eqb n 0) given other
+
+-- of an answer that is one number or a refusal: the refusal number, 0 for none; the value, plus zero where refused
 unfoldable pub refusalOf : Answered → ℕ
 refusalOf (Value v) = 0
 refusalOf (Refused n) = n
@@ -114,10 +126,6 @@ refusalOf (Refused n) = n
 unfoldable pub valueOf : Answered → Float
 valueOf (Value v) = v
 valueOf (Refused n) = zero32
-
--- by a refusal number: what an admitted call gives, or what a refused one does
-abbrev pub admitted {ℓ} : {A : Type ℓ} → ℕ → A → A → A
-admitted n given other = cond (eqb n 0) given other
 
 -- by a refusal number: the value, or the refusal
 unfoldable pub answered : ℕ → Float → Answered

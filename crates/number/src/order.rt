@@ -1,4 +1,4 @@
-// Absolute value, smaller, larger, clamp (docs/01-scope.md, "Number helpers").
+// Absolute value, smaller, larger, clamp, and a zero as it is written (docs/01-scope.md, "Number helpers").
 ghost use mathlib.Core.Path.{_≡_};
 ghost use Rattle.number.specs.Number as Def;
 
@@ -34,4 +34,11 @@ pub fn clamp(x: f32, low: f32, high: f32) -> f32
     } else {
         x
     }
+}
+
+// A zero of either sign is written plus zero.
+pub fn written(x: f32) -> f32
+    ensures { λ r. ⌜ r ≡ Def.written x ⌝ }
+{
+    if x == 0.0 { 0.0 } else { x }
 }

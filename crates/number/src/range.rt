@@ -11,15 +11,15 @@ pub fn is_finite(x: f32) -> bool
 }
 
 // Coordinates, displacements, coefficients: size at most 2^20.
-pub fn in_limit(x: f32) -> bool
-    ensures { λ r. ⌜ r ≡ Def.inLimit x ⌝ }
+pub fn in_bound(x: f32) -> bool
+    ensures { λ r. ⌜ r ≡ Def.inBound x ⌝ }
 {
     (-1048576.0 <= x) & (x <= 1048576.0)
 }
 
 // Offset, clearance, epsilon, a scale factor: 0 to 2^20.
-pub fn zero_to_limit(x: f32) -> bool
-    ensures { λ r. ⌜ r ≡ Def.zeroToLimit x ⌝ }
+pub fn zero_to_bound(x: f32) -> bool
+    ensures { λ r. ⌜ r ≡ Def.zeroToBound x ⌝ }
 {
     (0.0 <= x) & (x <= 1048576.0)
 }

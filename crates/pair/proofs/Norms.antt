@@ -1,4 +1,4 @@
--- The norm of any four points has the sign plus, so it is not below zero; of points within the limit it is at most
+-- The norm of any four points has the sign plus, so it is not below zero; of points within the bound it is at most
 -- 2 ^ 22. Assumes nothing.
 use Prim.Native.Nat.{ℕ, _+_, _-_, _≤_, _<_}
 use native.Mathlib.Omega.{arith}
@@ -11,7 +11,7 @@ use lib.Ieee.Bits.{ofBits-fits}
 use lib.Ieee.Fits.{add-fits, and-l, and-r}
 use Rattle.number.specs.Number.{_⊖_, zero32, larger, isFinite, refusalOf, valueOf, admitted, answered}
 use Rattle.number.specs.declared.answer.Answered.{Answered}
-use Rattle.number.specs.Root.{reaches, last, rootOf}
+use Rattle.number.specs.Root.{rootAtLeast, last, rootOf}
 use Rattle.number.proofs.Units.{plus}
 use Rattle.number.proofs.Within.{Within, sub-within, dot-within}
 use Rattle.number.proofs.Signs.{plus-up}
@@ -21,7 +21,7 @@ use Rattle.number.proofs.SquareRoot.Theorem.{root-from}
 use Rattle.number.proofs.SquareRoot.Bounds.{root-within}
 use Rattle.geometry.specs.Geometry.{at, col, count}
 use Rattle.pair.specs.Norm.{gapSquare, against, largestSquare, normOf}
-use Rattle.admission.specs.Admission.{limitPoints, splitRefusal}
+use Rattle.admission.specs.Admission.{boundedPoints, splitRefusal}
 use Rattle.admission.proofs.Admitted.{within-real, points-within, split-admits}
 use Rattle.pair.proofs.Counting.{fold-keeps}
 
@@ -46,7 +46,7 @@ square-fits x split =
 -- what is no positive finite number has the root plus zero
 no-root : (y : Float) → (lt zero32 y && isFinite y) ≡ false → zero32 ≡ rootOf y
 unfolding rootOf
-no-root y e = sym (ap (λ (b : Bool). cond b (ofBits binary32 (last (reaches y) 31 0)) zero32) e)
+no-root y e = sym (ap (λ (b : Bool). cond b (ofBits binary32 (last (rootAtLeast y) 31 0)) zero32) e)
 
 root-plus : (y : Float) → T (fits binary32 y) → T (plus (rootOf y))
 unfolding ofBits
@@ -65,7 +65,7 @@ norm-plus x split = root-plus (largestSquare x split) (square-fits x split)
 pub norm-up : (x : List (List Float)) (split : ℕ) → T (le zero32 (normOf x split))
 norm-up x split = plus-up (normOf x split) (norm-plus x split)
 
-module _ (x : List (List Float)) (h : T (limitPoints x)) where
+module _ (x : List (List Float)) (h : T (boundedPoints x)) where
   gap-within : (i j : ℕ) → i < 4 → j < 4 → Within 44 (gapSquare x i j)
   unfolding gapSquare
   gap-within i j k l =

@@ -7,9 +7,9 @@ use mathlib.Core.List.{List}
 use lib.Dec.{T, lit≤, lit<}
 use lib.Ieee.{Float}
 use lib.Ieee.Fits.{and-i}
-use Rattle.number.specs.Number.{zero32, isFinite, inLimit, admitted}
+use Rattle.number.specs.Number.{zero32, isFinite, inBound, admitted}
 use Rattle.number.proofs.Answers.{taken}
-use Rattle.number.proofs.Ranges.{in-limit, zero-to-limit, zero-to-one}
+use Rattle.number.proofs.Ranges.{in-bound, zero-to-bound, zero-to-one}
 use Rattle.geometry.specs.Geometry.{at, col, vec, lerpOf, moved, centred, scaled}
 use Rattle.geometry.proofs.Bounds.{VecWithin, PointsWithin, col-within, lerp-within, moved-within, scaled-within, centred-within}
 use Rattle.admission.specs.Admission.{ofThree, ofTwelve, finitePoints, pointsRefusal, factorRefusal, timeRefusal, ratioRefusal}
@@ -52,8 +52,8 @@ place-finite p q s e =
     let h = ratio-admits p q s e in
     given (λ (y : List Float). T (ofThree isFinite y)) (ratioRefusal p q s) (lerpOf p q s) (vec zero32 zero32 zero32) e
     (three 22 (lerpOf p q s)
-    (lerp-within 20 p q s (lit≤ tt) (λ j l. in-limit (at p j) (three-each inLimit p (h .0) j l))
-    (λ j l. in-limit (at q j) (three-each inLimit q (h .1) j l)) (zero-to-one s (h .2) .2)))
+    (lerp-within 20 p q s (lit≤ tt) (λ j l. in-bound (at p j) (three-each inBound p (h .0) j l))
+    (λ j l. in-bound (at q j) (three-each inBound q (h .1) j l)) (zero-to-one s (h .2) .2)))
 
 -- ---- four points
 module _ (x : List (List Float)) where
@@ -72,7 +72,7 @@ module _ (x : List (List Float)) where
       let h = factor-admits x s e in
       given (λ (y : List (List Float)). T (ofTwelve isFinite y)) (factorRefusal x s) (scaled x s) x e
       (twelve 40 (scaled x s)
-      (scaled-within 20 20 x s (lit≤ tt) (points-within x (h .0)) (zero-to-limit s (h .1) .1)))
+      (scaled-within 20 20 x s (lit≤ tt) (points-within x (h .0)) (zero-to-bound s (h .1) .1)))
 
   pub centred-finite : pointsRefusal x ≡ 0 → T (finitePoints (centredIn x))
   unfolding centredIn finitePoints

@@ -4,9 +4,9 @@ use mathlib.Core.Bool.{Bool, true, false, _&&_}
 use lib.Dec.{T}
 use lib.Ieee.{Float}
 use lib.Ieee.Fits.{and-l, and-r}
-use Rattle.number.specs.Number.{inLimit, zeroToLimit, aboveZeroToOne}
+use Rattle.number.specs.Number.{inBound, zeroToBound, aboveZeroToOne}
 use Rattle.number.proofs.Within.{Within}
-use Rattle.number.proofs.Ranges.{in-limit, above-zero-to-one}
+use Rattle.number.proofs.Ranges.{in-bound, above-zero-to-one}
 use Rattle.polynomial_root.specs.Quadratic.{refused}
 use Rattle.polynomial_root.specs.Finder.{allowedQuadratic, allowedCubic, admitted}
 use Rattle.polynomial_root.specs.declared.answer.Roots.{Roots}
@@ -27,20 +27,20 @@ five a b c d e f h =
 
 pub allowed-quadratic : (c0 c1 c2 : Float) → T (allowedQuadratic c0 c1 c2) → Within 20 c0 × Within 20 c1 × Within 20 c2
 allowed-quadratic c0 c1 c2 h =
-    let x = three (inLimit c0) (inLimit c1) (inLimit c2) h in
-    (in-limit c0 (x .0), in-limit c1 (x .1), in-limit c2 (x .2))
+    let x = three (inBound c0) (inBound c1) (inBound c2) h in
+    (in-bound c0 (x .0), in-bound c1 (x .1), in-bound c2 (x .2))
 
 pub allowed-cubic : (p : Cubic) (t epsilon : Float) → T (allowedCubic p t epsilon) → Allowed p t
 allowed-cubic p t epsilon h =
     let x =
-    five (inLimit (p .c0)) (inLimit (p .c1)) (inLimit (p .c2)) (inLimit (p .c3)) (aboveZeroToOne t)
-    (zeroToLimit epsilon) h in
+    five (inBound (p .c0)) (inBound (p .c1)) (inBound (p .c2)) (inBound (p .c3)) (aboveZeroToOne t)
+    (zeroToBound epsilon) h in
     let r = above-zero-to-one t (x .4) in
     record {
-      w0 = in-limit (p .c0) (x .0);
-      w1 = in-limit (p .c1) (x .1);
-      w2 = in-limit (p .c2) (x .2);
-      w3 = in-limit (p .c3) (x .3);
+      w0 = in-bound (p .c0) (x .0);
+      w1 = in-bound (p .c1) (x .1);
+      w2 = in-bound (p .c2) (x .2);
+      w3 = in-bound (p .c3) (x .3);
       above = r .0;
       small = r .2;
     }

@@ -1,5 +1,5 @@
 -- A property of each root that a step gives is one of each answered root: over the quadratic's roots, the kept ones
--- and the walk over the spans. Assumes nothing.
+-- and the spans one after another. Assumes nothing.
 use mathlib.Core.Path.{_≡_, refl}
 use mathlib.Core.Bool.{Bool, true, false, cond}
 use lib.Dec.{eqb}
@@ -33,7 +33,7 @@ module _ (P : Float → Type 0) where
   solved-holds (Both a b) (p, q) =
       push-holds P (push none a) b (push-refusal none a) (push-holds P none a refl (refused-holds P 0) p) q
 
-  -- ---- the walk over the spans
+  -- ---- the spans one after another
   joined-holds : (a : Roots) (f : Found) → a .refusal ≡ 0 → Holds P a → Gives P f → Holds P (joined a f)
   unfolding joined
   joined-holds a (Root r) z h g = push-holds P a r z h g

@@ -14,7 +14,7 @@ use Rattle.number.specs.Number.{_⊖_, _⊗_, _⊘_, zero32, one32, between}
 use Rattle.number.proofs.Within.{Within, within-more}
 use Rattle.polynomial_root.specs.Quadratic.{none, refused, written, push, two32, solved}
 use Rattle.polynomial_root.specs.Cubic.{three32, valueAt, bothZero, vanishes, constantRoots, opposite, linearRoots, keep, keptRoots, lowerRoots, spanRoots, cubicRoots}
-use Rattle.polynomial_root.specs.Finder.{finiteQuadratic, allowedQuadratic, finiteCubic, allowedCubic, solvedRoots, quadraticRoot, cubicRootsInRange, NoneOrTwo, reach}
+use Rattle.polynomial_root.specs.Finder.{finiteQuadratic, allowedQuadratic, finiteCubic, allowedCubic, solvedRoots, quadraticRoot, cubicRootsInRange, NoneOrTwo, rangeEnd}
 use Rattle.polynomial_root.specs.declared.answer.Roots.{Roots}
 use Rattle.polynomial_root.specs.declared.cubic.Cubic.{Cubic}
 use Rattle.polynomial_root.specs.declared.quadratic.Solved.{Solved}
@@ -83,7 +83,7 @@ module _ (p : Cubic) (t epsilon : Float) (h : Allowed p t) where
       go true false = linear-holds f
       go false z = kept-holds (In t) t (λ r i. written-in-range t (h .above) r (test-true i)) roots
 
-  pub cubic-holds : T (fits binary32 (p .c0)) → Holds (In (reach p t)) (cubicRoots p t epsilon)
+  pub cubic-holds : T (fits binary32 (p .c0)) → Holds (In (rangeEnd p t)) (cubicRoots p t epsilon)
   unfolding cubicRoots
   cubic-holds f = go (vanishes (p .c3))
     where
@@ -97,11 +97,11 @@ module _ (p : Cubic) (t epsilon : Float) (h : Allowed p t) where
       go false = spans-in-range p t epsilon h slope
 
 pub cubic-promises : (p : Cubic) (t epsilon : Float) → T (fits binary32 (p .c0))
-    → Holds (In (reach p t)) (cubicRootsInRange p t epsilon)
+    → Holds (In (rangeEnd p t)) (cubicRootsInRange p t epsilon)
 unfolding cubicRootsInRange
 cubic-promises p t epsilon f =
-    admitted-keeps (Holds (In (reach p t))) (finiteCubic p t epsilon) (allowedCubic p t epsilon)
-    (cubicRoots p t epsilon) (refused-holds (In (reach p t)))
+    admitted-keeps (Holds (In (rangeEnd p t))) (finiteCubic p t epsilon) (allowedCubic p t epsilon)
+    (cubicRoots p t epsilon) (refused-holds (In (rangeEnd p t)))
     (λ a. cubic-holds p t epsilon (allowed-cubic p t epsilon a) f)
 
 -- ---- a quadratic's roots

@@ -112,7 +112,7 @@ joined a Nothing = a
 joined a (Root r) = push a r
 joined a (Refused n) = refused n
 
--- a refusal ends the walk over the spans
+-- a refusal ends the search
 unfoldable pub after : Roots → Found → Roots
 after a f = cond (eqb (a .refusal) 0) (joined a f) a
 
@@ -135,7 +135,7 @@ unfoldable pub lastSpan : Cubic → Float → Float → Float → Found
 lastSpan p t epsilon e1 =
     cond (le e1 t) (spanRoot p t epsilon (endAt p (larger zero32 e1)) (endAt p t)) Nothing
 
--- the walk over the spans, cut at the slope's roots; without any, 0..t is the one span
+-- the spans one after another, cut at the slope's roots; without any, 0..t is the one span
 unfoldable pub spanRoots : Cubic → Float → Float → Solved → Roots
 spanRoots p t epsilon Neither = after none (spanRoot p t epsilon (start p) (endAt p t))
 spanRoots p t epsilon (Both e0 e1) =

@@ -2,7 +2,7 @@
 -- (docs/01-scope.md, "Roots", "What callers hand over", "Refusal numbers"). Definitions only.
 use mathlib.Core.Bool.{Bool, cond, _&&_, not}
 use lib.Ieee.{Float, eq, nan, isNan, le}
-use Rattle.number.specs.Number.{isFinite, inLimit, zeroToLimit, aboveZeroToOne, zero32, one32, between}
+use Rattle.number.specs.Number.{isFinite, inBound, zeroToBound, aboveZeroToOne, zero32, one32, between}
 use Rattle.polynomial_root.specs.Quadratic.{refused, none, push, solved}
 use Rattle.polynomial_root.specs.declared.answer.Roots.{Roots}
 use Rattle.polynomial_root.specs.declared.cubic.Cubic.{Cubic}
@@ -19,7 +19,7 @@ abbrev pub finiteQuadratic : Float → Float → Float → Bool
 finiteQuadratic c0 c1 c2 = isFinite c0 && isFinite c1 && isFinite c2
 
 abbrev pub allowedQuadratic : Float → Float → Float → Bool
-allowedQuadratic c0 c1 c2 = inLimit c0 && inLimit c1 && inLimit c2
+allowedQuadratic c0 c1 c2 = inBound c0 && inBound c1 && inBound c2
 
 -- the four coefficients, t and epsilon
 abbrev pub finiteCubic : Cubic → Float → Float → Bool
@@ -28,7 +28,7 @@ finiteCubic p t epsilon =
 
 abbrev pub allowedCubic : Cubic → Float → Float → Bool
 allowedCubic p t epsilon =
-    inLimit (p .c0) && inLimit (p .c1) && inLimit (p .c2) && inLimit (p .c3) && aboveZeroToOne t && zeroToLimit epsilon
+    inBound (p .c0) && inBound (p .c1) && inBound (p .c2) && inBound (p .c3) && aboveZeroToOne t && zeroToBound epsilon
 
 -- 1 where some number is not finite, else 2 where some number is out of its range, else the answer
 abbrev pub admitted : Bool → Bool → Roots → Roots
@@ -74,5 +74,5 @@ pub record NoneOrTwo (a : Roots) : Type 0 where
   pub order : a .count ≡ 2 → T (le (getD (a .roots) 0 nan) (getD (a .roots) 1 nan))
 
 -- the end of the range that the roots lie in: a linear root is a fraction of 0..t, and may lie above t
-abbrev pub reach : Cubic → Float → Float
-reach p t = cond (vanishes (p .c3) && vanishes (p .c2) && not (vanishes (p .c1))) one32 t
+abbrev pub rangeEnd : Cubic → Float → Float
+rangeEnd p t = cond (vanishes (p .c3) && vanishes (p .c2) && not (vanishes (p .c1))) one32 t

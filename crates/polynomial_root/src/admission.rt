@@ -3,9 +3,9 @@ ghost use mathlib.Core.Path.{_≡_};
 ghost use Rattle.polynomial_root.specs.Finder as Def;
 use crate::cubic::Cubic;
 use number::range::above_zero_to_one;
-use number::range::in_limit;
+use number::range::in_bound;
 use number::range::is_finite;
-use number::range::zero_to_limit;
+use number::range::zero_to_bound;
 
 pub(crate) fn finite_quadratic(c0: f32, c1: f32, c2: f32) -> bool
     ensures { λ b. ⌜ b ≡ Def.finiteQuadratic c0 c1 c2 ⌝ }
@@ -16,7 +16,7 @@ pub(crate) fn finite_quadratic(c0: f32, c1: f32, c2: f32) -> bool
 pub(crate) fn allowed_quadratic(c0: f32, c1: f32, c2: f32) -> bool
     ensures { λ b. ⌜ b ≡ Def.allowedQuadratic c0 c1 c2 ⌝ }
 {
-    in_limit(c0) & in_limit(c1) & in_limit(c2)
+    in_bound(c0) & in_bound(c1) & in_bound(c2)
 }
 
 pub(crate) fn finite_cubic(p: Cubic, t: f32, epsilon: f32) -> bool
@@ -29,7 +29,7 @@ pub(crate) fn allowed_cubic(p: Cubic, t: f32, epsilon: f32) -> bool
     ensures { λ b. ⌜ b ≡ Def.allowedCubic p t epsilon ⌝ }
 {
     allowed_quadratic(p.c0, p.c1, p.c2)
-        & in_limit(p.c3)
+        & in_bound(p.c3)
         & above_zero_to_one(t)
-        & zero_to_limit(epsilon)
+        & zero_to_bound(epsilon)
 }

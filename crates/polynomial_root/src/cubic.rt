@@ -35,7 +35,7 @@ fn joined(a: Roots, f: Found) -> Roots
     }
 }
 
-// A refusal ends the walk over the spans.
+// A refusal ends the search.
 fn after(a: Roots, f: Found) -> Roots
     ensures { λ b. ⌜ b ≡ Def.after a f ⌝ }
 {
@@ -88,7 +88,7 @@ fn last_span(p: Cubic, t: f32, epsilon: f32, e1: f32) -> Found
     }
 }
 
-// The walk over the spans, cut at the slope's roots; without any, 0..t is the one span.
+// The spans one after another, cut at the slope's roots; without any, 0..t is the one span.
 fn span_roots(p: Cubic, t: f32, epsilon: f32, s: Solved) -> Roots
     ensures { λ r. ⌜ r ≡ Def.spanRoots p t epsilon s ⌝ }
 {

@@ -10,7 +10,7 @@ mod span;
 
 ghost use mathlib.Core.Path.{_≡_};
 ghost use Rattle.polynomial_root.specs.Cubic.{cubicOf};
-ghost use Rattle.polynomial_root.specs.Finder.{Tidy, NoNan, NoneOrTwo, InRange, reach, quadraticRoot, cubicRootsInRange};
+ghost use Rattle.polynomial_root.specs.Finder.{Tidy, NoNan, NoneOrTwo, InRange, rangeEnd, quadraticRoot, cubicRootsInRange};
 use admission::allowed_cubic;
 use admission::allowed_quadratic;
 use admission::finite_cubic;
@@ -49,7 +49,7 @@ pub fn cubic_roots_in_range_zero_to_t(
 ) -> Roots
     ensures answer { λ r. ⌜ r ≡ cubicRootsInRange (cubicOf c0 c1 c2 c3) t epsilon ⌝ }
     ensures tidy { λ r. ⌜ Tidy r ⌝ }
-    ensures range { λ r. ⌜ InRange (reach (cubicOf c0 c1 c2 c3) t) r ⌝ }
+    ensures range { λ r. ⌜ InRange (rangeEnd (cubicOf c0 c1 c2 c3) t) r ⌝ }
 {
     let p = Cubic { c0, c1, c2, c3 };
     if !finite_cubic(p, t, epsilon) {

@@ -10,11 +10,11 @@ points-finite-requires c κs = search needs
 is-finite-requires : tie.Need-is-finite-requires
 is-finite-requires c κs = search needs
 
-points-in-limit-requires : tie.Need-points-in-limit-requires
-points-in-limit-requires c κs = search needs
+points-in-bound-requires : tie.Need-points-in-bound-requires
+points-in-bound-requires c κs = search needs
 
-zero-to-limit-requires : tie.Need-zero-to-limit-requires
-zero-to-limit-requires c κs = search needs
+zero-to-bound-requires : tie.Need-zero-to-bound-requires
+zero-to-bound-requires c κs = search needs
 
 verdict-requires : tie.Need-verdict-requires
 verdict-requires c κs = search needs
@@ -24,8 +24,8 @@ unfolding factorRefusal
 returns c =
     rw (
       c .verdict .ensures,
-      c .before .zero-to-limit .ensures,
-      c .before .before .points-in-limit .ensures,
+      c .before .zero-to-bound .ensures,
+      c .before .before .points-in-bound .ensures,
       c .before .before .before .is-finite .ensures,
       c .before .before .before .before .points-finite .ensures,
     )
@@ -36,7 +36,7 @@ admit-factor-spec =
     (tie.spec
     points-finite-requires
     is-finite-requires
-    points-in-limit-requires
-    zero-to-limit-requires
+    points-in-bound-requires
+    zero-to-bound-requires
     verdict-requires
     returns)

@@ -5,35 +5,35 @@ use mathlib.Core.Bool.{Bool, true, false, _&&_}
 use mathlib.Core.List.{List}
 use lib.Ieee.{Float}
 use borrow.Author.Needs.{needs}
-use Rattle.admission.specs.Admission.{finitePoints, limitPoints, refusal, motionRefusal}
+use Rattle.admission.specs.Admission.{finitePoints, boundedPoints, refusal, motionRefusal}
 use Rattle.admission.proofs.Admitted.{ranged-none, ranged-beyond, pair-real}
 use Rattle.admission.proofs.admit_motion.Statement.{statement}
 use Rattle.admission.proofs.admit_motion.Tie as tie
 
 -- by what the calls answer
-module _ (x dx : List (List Float)) (p q : Bool) (ep : p ≡ limitPoints x) (eq : q ≡ limitPoints dx) where
+module _ (x dx : List (List Float)) (p q : Bool) (ep : p ≡ boundedPoints x) (eq : q ≡ boundedPoints dx) where
   taken : (p && q) ≡ true → 0 ≡ motionRefusal x dx
   unfolding motionRefusal
   taken e =
-      ranged-none (finitePoints x && finitePoints dx) (limitPoints x && limitPoints dx) (pair-real x dx)
+      ranged-none (finitePoints x && finitePoints dx) (boundedPoints x && boundedPoints dx) (pair-real x dx)
       (rw (← ep, ← eq) e)
 
   left : (p && q) ≡ false → refusal (finitePoints x && finitePoints dx) false ≡ motionRefusal x dx
   unfolding motionRefusal
   left e =
-      ranged-beyond (finitePoints x && finitePoints dx) (limitPoints x && limitPoints dx) (rw (← ep, ← eq) e)
+      ranged-beyond (finitePoints x && finitePoints dx) (boundedPoints x && boundedPoints dx) (rw (← ep, ← eq) e)
 
-points-in-limit-requires : tie.Need-points-in-limit-requires
-points-in-limit-requires c κs = search needs
+points-in-bound-requires : tie.Need-points-in-bound-requires
+points-in-bound-requires c κs = search needs
 
-points-in-limit-requires-2 : tie.Need-points-in-limit-requires-2
-points-in-limit-requires-2 c κs = search needs
+points-in-bound-requires-2 : tie.Need-points-in-bound-requires-2
+points-in-bound-requires-2 c κs = search needs
 
 returns : tie.Need-returns
 returns c =
     let p = c .before .before in
     let a = p .before .args in
-    taken (a .x) (a .dx) _ _ (p .points-in-limit .ensures) (c .before .points-in-limit2 .ensures) (c .if1 .taken)
+    taken (a .x) (a .dx) _ _ (p .points-in-bound .ensures) (c .before .points-in-bound2 .ensures) (c .if1 .taken)
 
 points-finite-requires : tie.Need-points-finite-requires
 points-finite-requires c κs = search needs
@@ -52,14 +52,14 @@ returns-2 c =
     let a = p .before .args in
     c .verdict .ensures
     ∙ rw (c .before .points-finite2 .ensures, f .points-finite .ensures)
-    (left (a .x) (a .dx) _ _ (p .points-in-limit .ensures) (e .before .points-in-limit2 .ensures) (e .if1 .left))
+    (left (a .x) (a .dx) _ _ (p .points-in-bound .ensures) (e .before .points-in-bound2 .ensures) (e .if1 .left))
 
 pub admit-motion-spec : {M : Type 1} → statement M
 admit-motion-spec =
     tie.close
     (tie.spec
-    points-in-limit-requires
-    points-in-limit-requires-2
+    points-in-bound-requires
+    points-in-bound-requires-2
     returns
     points-finite-requires
     points-finite-requires-2

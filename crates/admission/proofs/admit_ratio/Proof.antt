@@ -13,11 +13,11 @@ three-finite-requires-2 c κs = search needs
 is-finite-requires : tie.Need-is-finite-requires
 is-finite-requires c κs = search needs
 
-three-in-limit-requires : tie.Need-three-in-limit-requires
-three-in-limit-requires c κs = search needs
+three-in-bound-requires : tie.Need-three-in-bound-requires
+three-in-bound-requires c κs = search needs
 
-three-in-limit-requires-2 : tie.Need-three-in-limit-requires-2
-three-in-limit-requires-2 c κs = search needs
+three-in-bound-requires-2 : tie.Need-three-in-bound-requires-2
+three-in-bound-requires-2 c κs = search needs
 
 zero-to-one-requires : tie.Need-zero-to-one-requires
 zero-to-one-requires c κs = search needs
@@ -31,8 +31,8 @@ returns c =
     rw (
       c .verdict .ensures,
       c .before .zero-to-one .ensures,
-      c .before .before .three-in-limit2 .ensures,
-      c .before .before .before .three-in-limit .ensures,
+      c .before .before .three-in-bound2 .ensures,
+      c .before .before .before .three-in-bound .ensures,
       c .before .before .before .before .is-finite .ensures,
       c .before .before .before .before .before .three-finite2 .ensures,
       c .before .before .before .before .before .before .three-finite .ensures,
@@ -45,8 +45,8 @@ admit-ratio-spec =
     three-finite-requires
     three-finite-requires-2
     is-finite-requires
-    three-in-limit-requires
-    three-in-limit-requires-2
+    three-in-bound-requires
+    three-in-bound-requires-2
     zero-to-one-requires
     verdict-requires
     returns)

@@ -7,25 +7,25 @@ use mathlib.Core.List.{List}
 use lib.Ieee.{Float}
 use lib.Ieee.Fits.{and-l}
 use borrow.Author.Needs.{needs}
-use Rattle.admission.specs.Admission.{finitePoints, limitPoints, isSplit, refusal, splitRefusal}
+use Rattle.admission.specs.Admission.{finitePoints, boundedPoints, isSplit, refusal, splitRefusal}
 use Rattle.admission.proofs.Admitted.{ranged-none, ranged-beyond, points-real}
 use Rattle.admission.proofs.admit_split.Statement.{statement}
 use Rattle.admission.proofs.admit_split.Tie as tie
 
 -- by what the calls answer
-module _ (x : List (List Float)) (split : ℕ) (p s : Bool) (ep : p ≡ limitPoints x) (es : s ≡ isSplit split) where
+module _ (x : List (List Float)) (split : ℕ) (p s : Bool) (ep : p ≡ boundedPoints x) (es : s ≡ isSplit split) where
   taken : (p && s) ≡ true → 0 ≡ splitRefusal x split
   unfolding splitRefusal
   taken e =
-      ranged-none (finitePoints x) (limitPoints x && isSplit split)
-      (λ h. points-real x (and-l (limitPoints x) (isSplit split) h)) (rw (← ep, ← es) e)
+      ranged-none (finitePoints x) (boundedPoints x && isSplit split)
+      (λ h. points-real x (and-l (boundedPoints x) (isSplit split) h)) (rw (← ep, ← es) e)
 
   left : (p && s) ≡ false → refusal (finitePoints x) false ≡ splitRefusal x split
   unfolding splitRefusal
-  left e = ranged-beyond (finitePoints x) (limitPoints x && isSplit split) (rw (← ep, ← es) e)
+  left e = ranged-beyond (finitePoints x) (boundedPoints x && isSplit split) (rw (← ep, ← es) e)
 
-points-in-limit-requires : tie.Need-points-in-limit-requires
-points-in-limit-requires c κs = search needs
+points-in-bound-requires : tie.Need-points-in-bound-requires
+points-in-bound-requires c κs = search needs
 
 is-split-requires : tie.Need-is-split-requires
 is-split-requires c κs = search needs
@@ -34,7 +34,7 @@ returns : tie.Need-returns
 returns c =
     let p = c .before .before in
     let a = p .before .args in
-    taken (a .x) (a .split) _ _ (p .points-in-limit .ensures) (c .before .is-split .ensures) (c .if1 .taken)
+    taken (a .x) (a .split) _ _ (p .points-in-bound .ensures) (c .before .is-split .ensures) (c .if1 .taken)
 
 points-finite-requires : tie.Need-points-finite-requires
 points-finite-requires c κs = search needs
@@ -49,13 +49,13 @@ returns-2 c =
     let a = p .before .args in
     c .verdict .ensures
     ∙ rw (c .before .points-finite .ensures)
-    (left (a .x) (a .split) _ _ (p .points-in-limit .ensures) (e .before .is-split .ensures) (e .if1 .left))
+    (left (a .x) (a .split) _ _ (p .points-in-bound .ensures) (e .before .is-split .ensures) (e .if1 .left))
 
 pub admit-split-spec : {M : Type 1} → statement M
 admit-split-spec =
     tie.close
     (tie.spec
-    points-in-limit-requires
+    points-in-bound-requires
     is-split-requires
     returns
     points-finite-requires

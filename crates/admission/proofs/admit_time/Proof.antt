@@ -8,7 +8,7 @@ use lib.Ieee.{Float}
 use lib.Ieee.Fits.{and-i, and-l, and-r}
 use borrow.Author.Needs.{needs}
 use Rattle.number.specs.Number.{isFinite, zeroToOne}
-use Rattle.admission.specs.Admission.{finitePoints, limitPoints, refusal, timeRefusal}
+use Rattle.admission.specs.Admission.{finitePoints, boundedPoints, refusal, timeRefusal}
 use Rattle.admission.proofs.Admitted.{ranged-none, ranged-beyond, pair-real, one-real}
 use Rattle.admission.proofs.admit_time.Statement.{statement}
 use Rattle.admission.proofs.admit_time.Tie as tie
@@ -18,16 +18,16 @@ module _ (x dx : List (List Float)) (t : Float) where
   finite = finitePoints x && finitePoints dx && isFinite t
 
   abbrev ranged : Bool
-  ranged = limitPoints x && limitPoints dx && zeroToOne t
+  ranged = boundedPoints x && boundedPoints dx && zeroToOne t
 
   real : T ranged → T finite
   real h =
       and-i (finitePoints x && finitePoints dx) (isFinite t)
-      (pair-real x dx (and-l (limitPoints x && limitPoints dx) (zeroToOne t) h))
-      (one-real t (and-r (limitPoints x && limitPoints dx) (zeroToOne t) h))
+      (pair-real x dx (and-l (boundedPoints x && boundedPoints dx) (zeroToOne t) h))
+      (one-real t (and-r (boundedPoints x && boundedPoints dx) (zeroToOne t) h))
 
   -- by what the calls answer
-  module _ (p q s : Bool) (ep : p ≡ limitPoints x) (eq : q ≡ limitPoints dx) (es : s ≡ zeroToOne t) where
+  module _ (p q s : Bool) (ep : p ≡ boundedPoints x) (eq : q ≡ boundedPoints dx) (es : s ≡ zeroToOne t) where
     taken : (p && q && s) ≡ true → 0 ≡ timeRefusal x dx t
     unfolding timeRefusal
     taken e = ranged-none finite ranged real (rw (← ep, ← eq, ← es) e)
@@ -36,11 +36,11 @@ module _ (x dx : List (List Float)) (t : Float) where
     unfolding timeRefusal
     left e = ranged-beyond finite ranged (rw (← ep, ← eq, ← es) e)
 
-points-in-limit-requires : tie.Need-points-in-limit-requires
-points-in-limit-requires c κs = search needs
+points-in-bound-requires : tie.Need-points-in-bound-requires
+points-in-bound-requires c κs = search needs
 
-points-in-limit-requires-2 : tie.Need-points-in-limit-requires-2
-points-in-limit-requires-2 c κs = search needs
+points-in-bound-requires-2 : tie.Need-points-in-bound-requires-2
+points-in-bound-requires-2 c κs = search needs
 
 zero-to-one-requires : tie.Need-zero-to-one-requires
 zero-to-one-requires c κs = search needs
@@ -50,7 +50,7 @@ returns c =
     let z = c .before in
     let p = z .before .before in
     let a = p .before .args in
-    taken (a .x) (a .dx) (a .t) _ _ _ (p .points-in-limit .ensures) (z .before .points-in-limit2 .ensures)
+    taken (a .x) (a .dx) (a .t) _ _ _ (p .points-in-bound .ensures) (z .before .points-in-bound2 .ensures)
     (z .zero-to-one .ensures) (c .if1 .taken)
 
 points-finite-requires : tie.Need-points-finite-requires
@@ -74,15 +74,15 @@ returns-2 c =
     let a = p .before .args in
     c .verdict .ensures
     ∙ rw (c .before .is-finite .ensures, f .points-finite2 .ensures, f .before .points-finite .ensures)
-    (left (a .x) (a .dx) (a .t) _ _ _ (p .points-in-limit .ensures) (z .before .points-in-limit2 .ensures)
+    (left (a .x) (a .dx) (a .t) _ _ _ (p .points-in-bound .ensures) (z .before .points-in-bound2 .ensures)
     (z .zero-to-one .ensures) (e .if1 .left))
 
 pub admit-time-spec : {M : Type 1} → statement M
 admit-time-spec =
     tie.close
     (tie.spec
-    points-in-limit-requires
-    points-in-limit-requires-2
+    points-in-bound-requires
+    points-in-bound-requires-2
     zero-to-one-requires
     returns
     points-finite-requires

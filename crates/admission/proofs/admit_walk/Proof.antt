@@ -7,22 +7,22 @@ use mathlib.Core.List.{List}
 use lib.Ieee.{Float}
 use borrow.Author.Needs.{needs}
 use Rattle.admission.specs.declared.Limits.{Limits}
-use Rattle.admission.specs.Admission.{limitPoints, isSplit, rangedLimits, rangedWalk}
+use Rattle.admission.specs.Admission.{boundedPoints, isSplit, rangedLimits, rangedWalk}
 use Rattle.admission.proofs.Admitted.{walk-none, walk-beyond}
 use Rattle.admission.proofs.admit_walk.Statement.{statement}
 use Rattle.admission.proofs.admit_walk.Tie as tie
 
 -- the tests of the ranges, by what the calls answer
-ranged-by : (x dx : List (List Float)) (split : ℕ) (l : Limits) (v a b r s : Bool) → a ≡ limitPoints x
-    → b ≡ limitPoints dx → r ≡ rangedLimits l → s ≡ isSplit split → (a && b && r && s) ≡ v
+ranged-by : (x dx : List (List Float)) (split : ℕ) (l : Limits) (v a b r s : Bool) → a ≡ boundedPoints x
+    → b ≡ boundedPoints dx → r ≡ rangedLimits l → s ≡ isSplit split → (a && b && r && s) ≡ v
     → rangedWalk x dx split l ≡ v
 ranged-by x dx split l v a b r s ea eb er es e = rw (← ea, ← eb, ← er, ← es) e
 
-points-in-limit-requires : tie.Need-points-in-limit-requires
-points-in-limit-requires c κs = search needs
+points-in-bound-requires : tie.Need-points-in-bound-requires
+points-in-bound-requires c κs = search needs
 
-points-in-limit-requires-2 : tie.Need-points-in-limit-requires-2
-points-in-limit-requires-2 c κs = search needs
+points-in-bound-requires-2 : tie.Need-points-in-bound-requires-2
+points-in-bound-requires-2 c κs = search needs
 
 limits-ranged-requires : tie.Need-limits-ranged-requires
 limits-ranged-requires c κs = search needs
@@ -36,8 +36,8 @@ returns c =
     let p = l .before .before in
     let a = p .before .args in
     walk-none (a .x0) (a .dx) (a .split) (a .limits)
-    (ranged-by (a .x0) (a .dx) (a .split) (a .limits) _ _ _ _ _ (p .points-in-limit .ensures)
-    (l .before .points-in-limit2 .ensures) (l .limits-ranged .ensures) (c .before .is-split .ensures) (c .if1 .taken))
+    (ranged-by (a .x0) (a .dx) (a .split) (a .limits) _ _ _ _ _ (p .points-in-bound .ensures)
+    (l .before .points-in-bound2 .ensures) (l .limits-ranged .ensures) (c .before .is-split .ensures) (c .if1 .taken))
 
 points-finite-requires : tie.Need-points-finite-requires
 points-finite-requires c κs = search needs
@@ -62,15 +62,15 @@ returns-2 c =
     c .verdict .ensures
     ∙ rw (f .limits-finite .ensures, f .before .points-finite2 .ensures, g .points-finite .ensures)
     (walk-beyond (a .x0) (a .dx) (a .split) (a .limits)
-    (ranged-by (a .x0) (a .dx) (a .split) (a .limits) _ _ _ _ _ (p .points-in-limit .ensures)
-    (l .before .points-in-limit2 .ensures) (l .limits-ranged .ensures) (e .before .is-split .ensures) (e .if1 .left)))
+    (ranged-by (a .x0) (a .dx) (a .split) (a .limits) _ _ _ _ _ (p .points-in-bound .ensures)
+    (l .before .points-in-bound2 .ensures) (l .limits-ranged .ensures) (e .before .is-split .ensures) (e .if1 .left)))
 
 pub admit-walk-spec : {M : Type 1} → statement M
 admit-walk-spec =
     tie.close
     (tie.spec
-    points-in-limit-requires
-    points-in-limit-requires-2
+    points-in-bound-requires
+    points-in-bound-requires-2
     limits-ranged-requires
     is-split-requires
     returns

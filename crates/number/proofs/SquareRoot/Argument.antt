@@ -13,25 +13,25 @@ use lib.Count.{leadingZeros, leading-top}
 use lib.Ieee.{Float, nan, inf, fin, binary32, up, down, lt, fits, ofBits, toBits}
 use lib.Ieee.Bits.{ofBits-toBits}
 use Rattle.number.specs.Number.{zero32, isFinite}
-use Rattle.number.specs.Root.{count, reaches, last, rootOf}
+use Rattle.number.specs.Root.{unitsOf, rootAtLeast, last, rootOf}
 use Rattle.number.proofs.Units.{L, Is, shift, fin-false}
 use Rattle.number.proofs.Patterns.{val, weight, bits-are}
 use Rattle.number.proofs.Neighbours.{bits-lt}
-use Rattle.number.proofs.SquareRoot.Nearest.{count-bits}
+use Rattle.number.proofs.SquareRoot.Nearest.{units-bits}
 
 -- ---- where the definition answers zero
 pub not-above : (x : Float) → lt zero32 x ≡ false → zero32 ≡ rootOf x
 unfolding rootOf
 not-above x h =
-    sym (ap (λ (c : Bool). cond (c && isFinite x) (ofBits binary32 (last (reaches x) 31 0)) zero32) h)
+    sym (ap (λ (c : Bool). cond (c && isFinite x) (ofBits binary32 (last (rootAtLeast x) 31 0)) zero32) h)
 
 pub not-finite : (x : Float) → isFinite x ≡ false → zero32 ≡ rootOf x
 unfolding rootOf
 not-finite x h =
-    sym (ap (λ (c : Bool). cond (lt zero32 x && c) (ofBits binary32 (last (reaches x) 31 0)) zero32) h
+    sym (ap (λ (c : Bool). cond (lt zero32 x && c) (ofBits binary32 (last (rootAtLeast x) 31 0)) zero32) h
     ∙ none (lt zero32 x))
   where
-    none : (a : Bool) → cond (a && false) (ofBits binary32 (last (reaches x) 31 0)) zero32 ≡ zero32
+    none : (a : Bool) → cond (a && false) (ofBits binary32 (last (rootAtLeast x) 31 0)) zero32 ≡ zero32
     none true = refl
     none false = refl
 
@@ -89,15 +89,15 @@ module _ (x : Float) (f : T (fits binary32 x)) (a : T (lt zero32 x)) where
       go : (y : Float) → Is y (val b) → T (isFinite y)
       go (fin s m e) i = tt
 
-  count-own : b < 2139095040 → count x ≡ val b
-  count-own h = ap count (sym own) ∙ count-bits b h
+  units-own : b < 2139095040 → unitsOf x ≡ val b
+  units-own h = ap unitsOf (sym own) ∙ units-bits b h
 
   -- ---- a normal argument
   pub scale-normal : b < 2139095040 → 0 < b / 8388608
-      → count x * L ≡ (b - weight b * 8388608) * 2 ^ (b / 8388608 + 23 + 125)
+      → unitsOf x * L ≡ (b - weight b * 8388608) * 2 ^ (b / 8388608 + 23 + 125)
   scale-normal h p =
       let q = b - weight b * 8388608 in
-      ap (λ (n : ℕ). n * L) (count-own h)
+      ap (λ (n : ℕ). n * L) (units-own h)
       ∙ mul-assoc q (2 ^ weight b) L
       ∙ ap (λ (n : ℕ). q * n) (sym (pow-add 2 (weight b) 149))
       ∙ ap (λ (n : ℕ). q * 2 ^ n) (exponents (b / 8388608) p)
@@ -136,10 +136,10 @@ raised d p h =
 
 pub scale-subnormal : (x : Float) → T (fits binary32 x) → T (lt zero32 x) → (i : ℕ) → i ≤ 23
     → toBits binary32 x / 8388608 ≡ 0
-    → count x * L ≡ toBits binary32 x * 2 ^ i * 2 ^ (24 - i + 125)
+    → unitsOf x * L ≡ toBits binary32 x * 2 ^ i * 2 ^ (24 - i + 125)
 scale-subnormal x f a i l z =
     let b = toBits binary32 x in
-    ap (λ (n : ℕ). n * L) (count-own x f a (omega arith) ∙ plain b z)
+    ap (λ (n : ℕ). n * L) (units-own x f a (omega arith) ∙ plain b z)
     ∙ ap (λ (n : ℕ). b * 2 ^ n) (back i l)
     ∙ ap (λ (n : ℕ). b * n) (pow-add 2 i (24 - i + 125))
     ∙ sym (mul-assoc b (2 ^ i) (2 ^ (24 - i + 125)))

@@ -9,7 +9,7 @@ use lib.Dec.{T, not-T}
 use lib.Pow.{pow-add, pow-pos}
 use lib.Ieee.{Float, binary32, lt, ofBits}
 use Rattle.number.specs.Number.{zero32, isFinite}
-use Rattle.number.specs.Root.{count, twiceMiddle, twiceRootSquared, reaches, rootOf}
+use Rattle.number.specs.Root.{unitsOf, twiceMiddle, twiceRootSquared, rootAtLeast, rootOf}
 use Rattle.number.specs.RootDigits.{RootBits, wholeOf}
 use Rattle.number.proofs.Numbers.{square-mono}
 use Rattle.number.proofs.Units.{L}
@@ -118,16 +118,16 @@ module _ (p k b : ℕ) (low : 2 ^ 23 ≤ p) (high : p < 2 ^ 24) (short : k < 300
       lt-of-lt-of-le (mul-lt-mul-of-pos-right (r .over) ww)
       (le-of-eq (sym (ap (λ (n : ℕ). n * n) above ∙ square (2 * q + 1))))
 
-  module _ (x : Float) (scale : count x * L ≡ p * 2 ^ (k + 125)) where
+  module _ (x : Float) (scale : unitsOf x * L ≡ p * 2 ^ (k + 125)) where
     target : twiceRootSquared x ≡ 4 * wholeOf p k * (w * w)
     unfolding twiceRootSquared
     target = ap (λ (n : ℕ). 4 * n) (scale ∙ whole-scale p k) ∙ sym (mul-assoc 4 (wholeOf p k) (w * w))
 
-    pub is-reached : T (reaches x b)
+    pub is-reached : T (rootAtLeast x b)
     is-reached = reach x b (omega (arith, bits-lt)) (lt-of-lt-of-le below-sq (le-of-eq (sym target)))
 
-    pub not-passed : T (not (reaches x (b + 1)))
-    not-passed = not-T (reaches x (b + 1)) (λ (t : T (reaches x (b + 1))).
+    pub not-passed : T (not (rootAtLeast x (b + 1)))
+    not-passed = not-T (rootAtLeast x (b + 1)) (λ (t : T (rootAtLeast x (b + 1))).
         lt-irrefl (twiceRootSquared x)
         (lt-of-lt-of-le (lt-of-le-of-lt (le-of-eq target) above-sq) (reached x (b + 1) t .1)))
 

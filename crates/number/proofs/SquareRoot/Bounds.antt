@@ -10,7 +10,7 @@ use lib.Pow.{pow-add, pow-pos, pow-mono, pow-lt, shl-lt}
 use lib.Ieee.{Float, fin, binary32, lt, fits, ofBits}
 use lib.Ieee.Bits.{ofBits-fits}
 use Rattle.number.specs.Number.{zero32, isFinite}
-use Rattle.number.specs.Root.{count, twiceRootSquared, rootOf}
+use Rattle.number.specs.Root.{unitsOf, twiceRootSquared, rootOf}
 use Rattle.number.specs.RootDigits.{wholeOf}
 use Rattle.number.proofs.Numbers.{le-of-not-lt, square-back}
 use Rattle.number.proofs.Units.{L, Top, Is, Unit32, plus, zero-is, says-lt}
@@ -19,7 +19,7 @@ use Rattle.number.proofs.Within.{Within, within-finite, within-units, u
 use Rattle.number.proofs.Ranges.{power}
 use Rattle.number.proofs.Neighbours.{after}
 use Rattle.number.proofs.Patterns.{val, bits-are}
-use Rattle.number.proofs.SquareRoot.Nearest.{count-is}
+use Rattle.number.proofs.SquareRoot.Nearest.{units-is}
 use Rattle.number.proofs.SquareRoot.Bits.{val-is, whole-scale}
 use Rattle.number.proofs.SquareRoot.Argument.{not-above, not-finite}
 use Rattle.number.proofs.SquareRoot.Found.{Found, found}
@@ -75,7 +75,7 @@ module _ (x : Float) (u : ℕ) (f : T (fits binary32 x)) (a : T (lt zero32 x)) (
   close =
       let q = r .bits .digits in
       let w = 2 ^ j in
-      le-trans (le-of-eq (ap (λ (n : ℕ). n * L * 4) (sym (count-is x u i)) ∙ ap (λ (n : ℕ). n * 4) (r .scale)
+      le-trans (le-of-eq (ap (λ (n : ℕ). n * L * 4) (sym (units-is x u i)) ∙ ap (λ (n : ℕ). n * 4) (r .scale)
       ∙ ap (λ (n : ℕ). n * 4) (whole-scale (r .p) (r .k)) ∙ four (wholeOf (r .p) (r .k)) (w * w)))
       (le-trans (mul-le-mul-right (w * w) (le-of-lt (r .bits .over)))
       (le-of-eq (sym (mul-mul-mul-comm (2 * q + 1) w (2 * q + 1) w)
@@ -116,8 +116,8 @@ power-from : (a : ℕ) → a ≤ 127 → FromZero (power a)
 unfolding isFinite
 power-from a l = record { fit = power-fits a l; sign = tt; real = tt }
 
-power-count : (a : ℕ) → count (power a) ≡ 2 ^ a * L
-power-count a = count-is (power a) (2 ^ a * L) (ap (λ (n : ℕ). n * L) (one-mul (2 ^ a)) ∙ sym (mul-one (2 ^ a * L)))
+power-units : (a : ℕ) → unitsOf (power a) ≡ 2 ^ a * L
+power-units a = units-is (power a) (2 ^ a * L) (ap (λ (n : ℕ). n * L) (one-mul (2 ^ a)) ∙ sym (mul-one (2 ^ a * L)))
 
 zero-within : (a : ℕ) → Within a zero32
 unfolding ofBits
@@ -129,7 +129,7 @@ target-le : (a : ℕ) (x : Float) (u : ℕ) → Is x u → Within (2 * a) x
 unfolding twiceRootSquared
 target-le a x u i h =
     let w = 2 ^ a * L in
-    le-trans (le-of-eq (ap (λ (n : ℕ). 4 * (n * L)) (count-is x u i)))
+    le-trans (le-of-eq (ap (λ (n : ℕ). 4 * (n * L)) (units-is x u i)))
     (le-trans (mul-le-mul-left 4 (mul-le-mul-right L (within-units (2 * a) x u i h)))
     (le-of-eq (ap (λ (n : ℕ). 4 * (n * L * L)) (ap (λ (n : ℕ). 2 ^ n) (double a) ∙ pow-add 2 a a)
     ∙ ap (λ (n : ℕ). 4 * n) (regroup (2 ^ a) L) ∙ four w)))
@@ -151,8 +151,8 @@ above-within a x l f p h =
     let s = k .units in
     let w = 2 ^ a * L in
     let n = theorem.none-nearer x f p (real x (i .0) (i .1 .is)) (power a) (power-from a l) in
-    let r : count (rootOf x) ≡ s = count-is (rootOf x) s (k .is .is) in
-    let b : w < s → (s + w) * (s + w) ≤ twiceRootSquared x = rw (power-count a, r) at (n .below) in
+    let r : unitsOf (rootOf x) ≡ s = units-is (rootOf x) s (k .is .is) in
+    let b : w < s → (s + w) * (s + w) ≤ twiceRootSquared x = rw (power-units a, r) at (n .below) in
     units-within a (rootOf x) s (k .is .is)
     (le-of-not-lt (λ (g : w < s).
     not-le-of-lt g (half s w (square-back (s + w) (w + w) (le-trans (b g) (target-le a x (i .0) (i .1 .is) h))))))

@@ -10,7 +10,7 @@ use native.Mathlib.Decide.{decLe}
 use lib.Dec.{T}
 use lib.Ieee.{Float, fin, binary32, lt, fits, ofBits, toBits}
 use Rattle.number.specs.Number.{zero32, isFinite}
-use Rattle.number.specs.Root.{count, rootOf}
+use Rattle.number.specs.Root.{unitsOf, rootOf}
 use Rattle.number.specs.RootDigits.{RootBits, wholeOf}
 use Rattle.number.proofs.Units.{L, shift, fin-false}
 use Rattle.number.proofs.Patterns.{weight}
@@ -53,7 +53,7 @@ pub record Found (x : Float) : Type 0 where
   pub high : p < 2 ^ 24
   pub short : k < 300
   pub bits : RootBits p k b
-  pub scale : count x * L ≡ p * 2 ^ (k + 125)
+  pub scale : unitsOf x * L ≡ p * 2 ^ (k + 125)
 
 finite-lt : (x : Float) → T (fits binary32 x) → T (lt zero32 x) → T (isFinite x) → toBits binary32 x < 2139095040
 unfolding lt isFinite ofBits

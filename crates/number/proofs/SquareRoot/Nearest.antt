@@ -12,26 +12,26 @@ use lib.Ieee.{Float, fin, binary32, down, lt, ofBits}
 use lib.Ieee.Bits.{is-true, is-false}
 use lib.Ieee.Fits.{and-i, and-l, and-r, eq→eqb, down-pos}
 use Rattle.number.specs.Number.{zero32, isFinite}
-use Rattle.number.specs.Root.{count, twiceMiddle, twiceRootSquared, reaches, last, rootOf}
+use Rattle.number.specs.Root.{unitsOf, twiceMiddle, twiceRootSquared, rootAtLeast, last, rootOf}
 use Rattle.number.proofs.Numbers.{le-of-not-lt, square-mono}
 use Rattle.number.proofs.Units.{Is, size-is}
 use Rattle.number.proofs.Within.{or-l, or-r}
 use Rattle.number.proofs.Patterns.{val, val-lt, val-le, bits-are}
 
 -- ---- counts
-pub count-is : (x : Float) (u : ℕ) → Is x u → count x ≡ u
-unfolding count
-count-is (fin s m e) u h = ap (λ (n : ℕ). n / down e) (size-is s m e u h) ∙ mul-div-cancel u (down-pos e)
+pub units-is : (x : Float) (u : ℕ) → Is x u → unitsOf x ≡ u
+unfolding unitsOf
+units-is (fin s m e) u h = ap (λ (n : ℕ). n / down e) (size-is s m e u h) ∙ mul-div-cancel u (down-pos e)
 
-pub count-bits : (b : ℕ) → b < 2139095040 → count (ofBits binary32 b) ≡ val b
-count-bits b h = count-is (ofBits binary32 b) (val b) (bits-are b h)
+pub units-bits : (b : ℕ) → b < 2139095040 → unitsOf (ofBits binary32 b) ≡ val b
+units-bits b h = units-is (ofBits binary32 b) (val b) (bits-are b h)
 
 -- ---- middles
 pub middle-is : (b : ℕ) → b < 2139095040 → twiceMiddle b ≡ val (b - 1) + val b
 unfolding twiceMiddle
 middle-is b h =
-    ap (λ (n : ℕ). n + count (ofBits binary32 b)) (count-bits (b - 1) (omega arith))
-    ∙ ap (λ (n : ℕ). val (b - 1) + n) (count-bits b h)
+    ap (λ (n : ℕ). n + unitsOf (ofBits binary32 b)) (units-bits (b - 1) (omega arith))
+    ∙ ap (λ (n : ℕ). val (b - 1) + n) (units-bits b h)
 
 middle-lt : (b c : ℕ) → b < c → c < 2139095040 → twiceMiddle b < twiceMiddle c
 middle-lt b c h l =
@@ -54,8 +54,8 @@ module _ (x : Float) (b : ℕ) where
   abbrev tie : Bool
   tie = eqb m n && eqb (b % 2) 0
 
-  pub reached : T (reaches x b) → (b < 2139095040) × (m ≤ n)
-  unfolding reaches
+  pub reached : T (rootAtLeast x b) → (b < 2139095040) × (m ≤ n)
+  unfolding rootAtLeast
   reached t = (
     ltb→lt b 2139095040 (and-l (ltb b 2139095040) (ltb m n || tie) t),
     elim (or-cases (ltb m n) tie (and-r (ltb b 2139095040) (ltb m n || tie) t)) [
@@ -64,32 +64,32 @@ module _ (x : Float) (b : ℕ) where
     ],
   )
 
-  pub reach : b < 2139095040 → m < n → T (reaches x b)
-  unfolding reaches
+  pub reach : b < 2139095040 → m < n → T (rootAtLeast x b)
+  unfolding rootAtLeast
   reach h l = and-i (ltb b 2139095040) (ltb m n || tie) (lt→ltb b 2139095040 h) (or-l (ltb m n) tie (lt→ltb m n l))
 
   -- on the middle itself it is reached by the even one alone
-  pub reached-tie : T (reaches x b) → m ≡ n → b % 2 ≡ 0
-  unfolding reaches
+  pub reached-tie : T (rootAtLeast x b) → m ≡ n → b % 2 ≡ 0
+  unfolding rootAtLeast
   reached-tie t e = elim (or-cases (ltb m n) tie (and-r (ltb b 2139095040) (ltb m n || tie) t)) [
     | inl u ↦ absurd (lt-irrefl n (subst (λ (k : ℕ). k < n) e (ltb→lt m n u)))
     | inr u ↦ eqb→eq (b % 2) 0 (and-r (eqb m n) (eqb (b % 2) 0) u)
   ]
 
-  pub missed : b < 2139095040 → T (not (reaches x b)) → n ≤ m
-  missed h t = le-of-not-lt (λ (l : m < n). T-not (reaches x b) t (reach h l))
+  pub missed : b < 2139095040 → T (not (rootAtLeast x b)) → n ≤ m
+  missed h t = le-of-not-lt (λ (l : m < n). T-not (rootAtLeast x b) t (reach h l))
 
-  pub missed-tie : b < 2139095040 → T (not (reaches x b)) → m ≡ n → b % 2 ≡ 0 → ⊥
-  unfolding reaches
+  pub missed-tie : b < 2139095040 → T (not (rootAtLeast x b)) → m ≡ n → b % 2 ≡ 0 → ⊥
+  unfolding rootAtLeast
   missed-tie h t e z =
-      T-not (reaches x b) t
+      T-not (rootAtLeast x b) t
       (and-i (ltb b 2139095040) (ltb m n || tie) (lt→ltb b 2139095040 h)
       (or-r (ltb m n) tie (and-i (eqb m n) (eqb (b % 2) 0) (eq→eqb e) (eq→eqb z))))
 
 -- whatever lies below a pattern that is reached is reached
-reaches-down : (x : Float) (b c : ℕ) → b ≤ c → T (reaches x c) → T (reaches x b)
-reaches-down x b c h t = elim (eq-or-lt-of-le h) [
-  | inl e ↦ subst (λ (d : ℕ). T (reaches x d)) (sym e) t
+at-least-down : (x : Float) (b c : ℕ) → b ≤ c → T (rootAtLeast x c) → T (rootAtLeast x b)
+at-least-down x b c h t = elim (eq-or-lt-of-le h) [
+  | inl e ↦ subst (λ (d : ℕ). T (rootAtLeast x d)) (sym e) t
   | inr l ↦
       let r = reached x c t in
       reach x b (lt-of-le-of-lt h (r .0))
@@ -117,14 +117,14 @@ search-finds p b yes· no· (suc k) a h l = go (search-finds p b yes· no· k) (
         by false (is-false (p (a + 2 ^ k)) (no· (a + 2 ^ k) (lt-of-not-le f))) ∙ ih a h (lt-of-not-le f)
 
 -- the pattern that is reached, where the next one is not, is the one that the search finds
-pub root-at : (x : Float) (b : ℕ) → T (lt zero32 x) → T (isFinite x) → T (reaches x b) → T (not (reaches x (b + 1)))
+pub root-at : (x : Float) (b : ℕ) → T (lt zero32 x) → T (isFinite x) → T (rootAtLeast x b) → T (not (rootAtLeast x (b + 1)))
     → rootOf x ≡ ofBits binary32 b
 unfolding rootOf
 root-at x b p f t n =
-    ap (λ (c : Bool). cond c (ofBits binary32 (last (reaches x) 31 0)) zero32)
+    ap (λ (c : Bool). cond c (ofBits binary32 (last (rootAtLeast x) 31 0)) zero32)
     (is-true (lt zero32 x && isFinite x) (and-i (lt zero32 x) (isFinite x) p f))
     ∙ ap (ofBits binary32)
-    (search-finds (reaches x) b (λ c h. reaches-down x c b h t)
-    (λ c h. not-T (reaches x c) (λ (u : T (reaches x c)).
-    T-not (reaches x (b + 1)) n (reaches-down x (b + 1) c (omega arith) u)))
+    (search-finds (rootAtLeast x) b (λ c h. at-least-down x c b h t)
+    (λ c h. not-T (rootAtLeast x c) (λ (u : T (rootAtLeast x c)).
+    T-not (rootAtLeast x (b + 1)) n (at-least-down x (b + 1) c (omega arith) u)))
     31 0 zero-le (lt-of-lt-of-le (reached x b t .0) (omega arith)))

@@ -13,12 +13,12 @@ use lib.Ieee.{Float, fin, binary32, lt, fits, ofBits, toBits}
 use lib.Ieee.Bits.{ofBits-fits, ofBits-toBits}
 use lib.Ieee.Exact.{HasValue}
 use Rattle.number.specs.Number.{zero32, isFinite}
-use Rattle.number.specs.Root.{count, twiceMiddle, twiceRootSquared, reaches, rootOf}
+use Rattle.number.specs.Root.{unitsOf, twiceMiddle, twiceRootSquared, rootAtLeast, rootOf}
 use Rattle.number.proofs.Numbers.{square-back}
 use Rattle.number.proofs.Units.{L, plus, shift, fin-false}
 use Rattle.number.proofs.Patterns.{val, val-lt, val-le, val-back, val-le-back, bits-back, bits-plus}
 use Rattle.number.proofs.Neighbours.{bits-lt}
-use Rattle.number.proofs.SquareRoot.Nearest.{count-bits, middle-is, reached, reached-tie, missed, missed-tie}
+use Rattle.number.proofs.SquareRoot.Nearest.{units-bits, middle-is, reached, reached-tie, missed, missed-tie}
 use Rattle.number.proofs.SquareRoot.Bits as bits
 use Rattle.number.proofs.SquareRoot.Found.{Found, found, found-root}
 
@@ -32,7 +32,7 @@ pub record NotNearer (n r y b : ℕ) : Type 0 where
 
 -- ---- by patterns: b is reached and b + 1 is not
 module _ (x : Float) (b c : ℕ) (B : b < 2139095040) (C : c < 2139095040)
-    (t : T (reaches x b)) (f : T (not (reaches x (b + 1)))) where
+    (t : T (rootAtLeast x b)) (f : T (not (rootAtLeast x (b + 1)))) where
   abbrev both : ℕ
   both = val b + val c
 
@@ -96,9 +96,9 @@ from-lt y k = go y (k .fit) (k .sign) (k .real)
     go : (y : Float) → T (fits binary32 y) → T (plus y) → T (isFinite y) → toBits binary32 y < 2139095040
     go (fin false m e) f p h = bits-lt (fin false m e) (m * 2 ^ shift e) f tt (fin-false m e f)
 
-from-count : (y : Float) → FromZero y → val (toBits binary32 y) ≡ count y
-from-count y k =
-    sym (count-bits (toBits binary32 y) (from-lt y k)) ∙ ap count (ofBits-toBits binary32 y (k .fit))
+from-units : (y : Float) → FromZero y → val (toBits binary32 y) ≡ unitsOf y
+from-units y k =
+    sym (units-bits (toBits binary32 y) (from-lt y k)) ∙ ap unitsOf (ofBits-toBits binary32 y (k .fit))
 
 value-plus : (y : Float) (u : ℕ) → HasValue y false u L → T (plus y) × T (isFinite y)
 unfolding isFinite
@@ -129,13 +129,13 @@ module _ (x : Float) (f : T (fits binary32 x)) (a : T (lt zero32 x)) (h : T (isF
   root-pattern : toBits binary32 (rootOf x) ≡ r .b
   root-pattern = ap (toBits binary32) is-root ∙ bits-back (r .b) under-top
 
-  root-count : count (rootOf x) ≡ val (r .b)
-  root-count = ap count is-root ∙ count-bits (r .b) under-top
+  root-units : unitsOf (rootOf x) ≡ val (r .b)
+  root-units = ap unitsOf is-root ∙ units-bits (r .b) under-top
 
-  at-root : T (reaches x (r .b))
+  at-root : T (rootAtLeast x (r .b))
   at-root = bits.is-reached (r .p) (r .k) (r .b) (r .low) (r .high) (r .short) (r .bits) x (r .scale)
 
-  past-root : T (not (reaches x (r .b + 1)))
+  past-root : T (not (rootAtLeast x (r .b + 1)))
   past-root = bits.not-passed (r .p) (r .k) (r .b) (r .low) (r .high) (r .short) (r .bits) x (r .scale)
 
   pub root-from : FromZero (rootOf x)
@@ -147,26 +147,26 @@ module _ (x : Float) (f : T (fits binary32 x)) (a : T (lt zero32 x)) (h : T (isF
 
   -- no f32 is nearer to the exact root
   pub none-nearer : (y : Float) → FromZero y
-      → NotNearer (twiceRootSquared x) (count (rootOf x)) (count y) (toBits binary32 (rootOf x))
+      → NotNearer (twiceRootSquared x) (unitsOf (rootOf x)) (unitsOf y) (toBits binary32 (rootOf x))
   none-nearer y k =
       let n = twiceRootSquared x in
       let c = toBits binary32 y in
-      subst (λ (s : ℕ). NotNearer n s (count y) (toBits binary32 (rootOf x))) (sym root-count)
-      (subst (λ (b : ℕ). NotNearer n (val (r .b)) (count y) b) (sym root-pattern)
-      (subst (λ (s : ℕ). NotNearer n (val (r .b)) s (r .b)) (from-count y k)
+      subst (λ (s : ℕ). NotNearer n s (unitsOf y) (toBits binary32 (rootOf x))) (sym root-units)
+      (subst (λ (b : ℕ). NotNearer n (val (r .b)) (unitsOf y) b) (sym root-pattern)
+      (subst (λ (s : ℕ). NotNearer n (val (r .b)) s (r .b)) (from-units y k)
       (not-nearer x (r .b) c under-top (from-lt y k) at-root past-root)))
 
   -- and it is the only one
   module _ (s : Float) (k : FromZero s)
       (best : (y : Float) → FromZero y
-      → NotNearer (twiceRootSquared x) (count s) (count y) (toBits binary32 s)) where
+      → NotNearer (twiceRootSquared x) (unitsOf s) (unitsOf y) (toBits binary32 s)) where
     abbrev c : ℕ
     c = toBits binary32 s
 
     own : NotNearer (twiceRootSquared x) (val c) (val (r .b)) c
     own =
-        subst (λ (u : ℕ). NotNearer (twiceRootSquared x) u (val (r .b)) c) (sym (from-count s k))
-        (subst (λ (u : ℕ). NotNearer (twiceRootSquared x) (count s) u c) root-count (best (rootOf x) root-from))
+        subst (λ (u : ℕ). NotNearer (twiceRootSquared x) u (val (r .b)) c) (sym (from-units s k))
+        (subst (λ (u : ℕ). NotNearer (twiceRootSquared x) (unitsOf s) u c) root-units (best (rootOf x) root-from))
 
     -- a smaller one: the middle below the root is the root itself, so both patterns would be even
     not-less : c < r .b → ⊥

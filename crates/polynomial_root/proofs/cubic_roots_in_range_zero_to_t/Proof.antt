@@ -8,7 +8,7 @@ use lib.Ieee.{Float, binary32, fits}
 use borrow.Author.Tests.{not-true, not-false}
 use Rattle.number.specs.Number.{zero32, between}
 use Rattle.polynomial_root.specs.Cubic.{cubicOf}
-use Rattle.polynomial_root.specs.Finder.{cubicRootsInRange, Tidy, InRange, reach}
+use Rattle.polynomial_root.specs.Finder.{cubicRootsInRange, Tidy, InRange, rangeEnd}
 use Rattle.polynomial_root.specs.declared.answer.Roots.{Roots}
 use Rattle.polynomial_root.proofs.Orders.{test-true}
 use Rattle.polynomial_root.proofs.Places.{Holds}
@@ -19,10 +19,10 @@ use Rattle.polynomial_root.proofs.cubic_roots_in_range_zero_to_t.Tie as
 -- the equation, and what follows from it
 promised : (c0 c1 c2 c3 t epsilon : Float) → fits binary32 c0 ≡ true → {r : Roots}
     → r ≡ cubicRootsInRange (cubicOf c0 c1 c2 c3) t epsilon
-    → (r ≡ cubicRootsInRange (cubicOf c0 c1 c2 c3) t epsilon) × (Tidy r × InRange (reach (cubicOf c0 c1 c2 c3) t) r)
+    → (r ≡ cubicRootsInRange (cubicOf c0 c1 c2 c3) t epsilon) × (Tidy r × InRange (rangeEnd (cubicOf c0 c1 c2 c3) t) r)
 promised c0 c1 c2 c3 t epsilon f e =
     let p = cubicOf c0 c1 c2 c3 in
-    let h = subst (Holds (λ r. T (between zero32 (reach p t) r))) (sym e) (cubic-promises p t epsilon (test-true f)) in
+    let h = subst (Holds (λ r. T (between zero32 (rangeEnd p t) r))) (sym e) (cubic-promises p t epsilon (test-true f)) in
     (e, (h .tidy, h .each))
 
 finite-cubic-requires : tie.Need-finite-cubic-requires

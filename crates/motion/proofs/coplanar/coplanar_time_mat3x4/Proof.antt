@@ -9,7 +9,7 @@ use lib.Dec.{T}
 use lib.Ieee.{Float}
 use Rattle.number.specs.Number.{zero32, one32, between}
 use Rattle.polynomial_root.specs.Cubic.{vanishes}
-use Rattle.polynomial_root.specs.Finder.{Tidy, InRange, reach, cubicRootsInRange}
+use Rattle.polynomial_root.specs.Finder.{Tidy, InRange, rangeEnd, cubicRootsInRange}
 use Rattle.polynomial_root.specs.declared.answer.Roots.{Roots}
 use Rattle.polynomial_root.specs.declared.cubic.Cubic.{Cubic}
 use Rattle.polynomial_root.specs.Quadratic.{refused}
@@ -22,7 +22,7 @@ use Rattle.motion.proofs.coplanar.coplanar_time_mat3x4.Statement.{state
 use Rattle.motion.proofs.coplanar.coplanar_time_mat3x4.Tie as tie
 
 -- a linear root lies in 0..1, and so does any other where the range is 0..1
-to-one : (p : Cubic) → reach p one32 ≡ one32
+to-one : (p : Cubic) → rangeEnd p one32 ≡ one32
 to-one p = either (vanishes (p .c3) && vanishes (p .c2) && not (vanishes (p .c1)))
   where
     either : (b : Bool) → cond b one32 one32 ≡ one32

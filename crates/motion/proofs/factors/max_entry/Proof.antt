@@ -7,14 +7,14 @@ use mathlib.Core.List.{List, foldl}
 use lib.Ieee.{Float}
 use borrow.Author.Needs.{needs}
 use Rattle.geometry.specs.Geometry.{col, count}
-use Rattle.motion.specs.Scaling.{reachColumn, maxEntry}
+use Rattle.motion.specs.Scaling.{largerColumn, maxEntry}
 use Rattle.pair.proofs.Counting.{fold-turn, fold-done}
 use Rattle.motion.proofs.factors.max_entry.Statement.{statement}
 use Rattle.motion.proofs.factors.max_entry.Tie as tie
 
 -- one column more
 abbrev turn : List (List Float) → List (List Float) → Float → Float → ℕ → Float
-turn x dx t most i = reachColumn t most (col x i) (col dx i)
+turn x dx t most i = largerColumn t most (col x i) (col dx i)
 
 abbrev Inv-loop : tie.InvT-loop
 Inv-loop max-t x dx most₀ i₀ most i =
@@ -39,8 +39,8 @@ mul-d c = omega arith
 array-copy-out-d : tie.Need-array-copy-out-d Inv-loop μ-loop
 array-copy-out-d c = omega arith
 
-reach-column-requires : tie.Need-reach-column-requires Inv-loop μ-loop
-reach-column-requires c κs = search needs
+larger-column-requires : tie.Need-larger-column-requires Inv-loop μ-loop
+larger-column-requires c κs = search needs
 
 add-i : tie.Need-add-i Inv-loop μ-loop
 add-i c = omega arith
@@ -52,7 +52,7 @@ loop-again : tie.Need-loop-again Inv-loop μ-loop
 loop-again c =
     let l = c .before .before .before .before .loop in
     let a = c .before .before .before .before .before .args in
-    let h : c .reach-column .result ≡ turn (a .t1) (a .t2) (a .max-t) (l .most) (l .i) = cc in
+    let h : c .larger-column .result ≡ turn (a .t1) (a .t2) (a .max-t) (l .most) (l .i) = cc in
     (omega arith, fold-turn (turn (a .t1) (a .t2) (a .max-t)) (l .i) 4 (l .most) _ (omega arith) h ∙ l .inv .1)
 
 returns : tie.Need-returns Inv-loop μ-loop
@@ -69,7 +69,7 @@ max-entry-spec =
     array-copy-out-v
     mul-d
     array-copy-out-d
-    reach-column-requires
+    larger-column-requires
     add-i
     loop-less
     loop-again

@@ -1,8 +1,8 @@
--- `motion::factors::reach` meets its contract. Assumes nothing.
+-- `motion::factors::larger_entry` meets its contract. Assumes nothing.
 use borrow.Author.Needs.{needs}
-use Rattle.motion.specs.Scaling.{reach}
-use Rattle.motion.proofs.factors.reach.Statement.{statement}
-use Rattle.motion.proofs.factors.reach.Tie as tie
+use Rattle.motion.specs.Scaling.{largerEntry}
+use Rattle.motion.proofs.factors.larger_entry.Statement.{statement}
+use Rattle.motion.proofs.factors.larger_entry.Tie as tie
 
 size-requires : tie.Need-size-requires
 size-requires c κs = search needs
@@ -17,7 +17,7 @@ larger-requires-2 : tie.Need-larger-requires-2
 larger-requires-2 c κs = search needs
 
 returns : tie.Need-returns
-unfolding reach
+unfolding largerEntry
 returns c =
     rw (
       c .larger2 .ensures,
@@ -26,6 +26,6 @@ returns c =
       c .before .before .before .size .ensures,
     )
 
-pub reach-spec : {M : Type 1} → statement M
-reach-spec =
+pub larger-entry-spec : {M : Type 1} → statement M
+larger-entry-spec =
     tie.close (tie.spec size-requires larger-requires size-requires-2 larger-requires-2 returns)
