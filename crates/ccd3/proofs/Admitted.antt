@@ -17,6 +17,7 @@ use Rattle.admission.specs.declared.Limits.{Limits}
 use Rattle.admission.proofs.Admitted.{Walkable, points-within}
 use Rattle.ccd3.specs.Walk.{squaredAt}
 use Rattle.ccd3.proofs.Growth.{Sound}
+use Rattle.ccd3.proofs.PlainStep.{Given}
 use Rattle.ccd3.proofs.Standing.{Ground}
 
 -- each number that is handed over is an f32
@@ -54,16 +55,18 @@ module _ (x dx : List (List Float)) (split : ℕ) (l : Limits) (w : Walkable x d
       sound (moved x dx t)
       (moved-within 20 x dx t (lit≤ tt) here moves (zero-to-one t (and-i (le zero32 t) (le t one32) a b) .2))
 
+  pub given : Given l
+  given = record {
+    offset-fits = f .offset;
+    clearance-fits = f .clearance;
+    offset-in = w .offset;
+    clearance-in = w .clearance;
+    speed-in = w .u-max;
+  }
+
   pub ground : Ground x dx split l
   unfolding squaredAt
   ground = record {
-    given = record {
-      offset-fits = f .offset;
-      clearance-fits = f .clearance;
-      offset-in = w .offset;
-      clearance-in = w .clearance;
-      speed-in = w .u-max;
-    };
     limit-fits = f .max-t;
     limit-in = w .max-t;
     sound-start = sound-start;

@@ -1,42 +1,22 @@
--- A loop that follows `halve`, turn by turn (the halving of `Rattle.number.specs.Halving`). What is left of the
--- halving after a turn leads to the same end. Assumes nothing.
+-- A loop that follows `halve`, turn by turn (`Rattle.number.specs.Halving`), over the law for loops with a cap.
+-- Assumes nothing.
 use mathlib.Core.Path.{_≡_, refl, sym, ap, _∙_}
 use mathlib.Core.Logic.{_⊎_, inl, inr}
-use mathlib.Core.Bool.{Bool, true, false, cond}
-use Prim.Native.Nat.{ℕ, suc, _+_, _-_, _<_}
+use mathlib.Core.Bool.{Bool, true, false}
+use Prim.Native.Nat.{ℕ, suc, _+_}
 use native.Mathlib.Numerals.{add-one}
-use native.Mathlib.Omega.{arith}
 use lib.Ieee.{Float, eq}
 use Rattle.number.specs.Halving.{midpoint, window, nextLower, nextUpper, repeats, Halved, halve}
 
 module _ (p : Float → Bool) where
+  -- where a halving stands: how many halvings were made, and the ends
+  abbrev pub halveFrom : ℕ → ℕ × Float × Float → Halved
+  halveFrom k s = halve p k (s .0) (s .1) (s .2)
+
   pub halve-none : (n : ℕ) (lo hi : Float)
       → halve p 0 n lo hi ≡ record { lower = lo; upper = hi; count = n; stopped = false }
   unfolding halve
   halve-none n lo hi = refl
-
-  abbrev stopped-at : ℕ → Float → Float → Halved
-  stopped-at n lo hi =
-      record { lower = nextLower p lo hi; upper = nextUpper p lo hi; count = suc n; stopped = true }
-
-  -- one turn, by whether the window repeats
-  turn : (k n : ℕ) (lo hi : Float) (b : Bool) → repeats p lo hi ≡ b
-      → halve p (suc k) n lo hi
-      ≡ cond b (stopped-at n lo hi) (halve p k (suc n) (nextLower p lo hi) (nextUpper p lo hi))
-  unfolding halve
-  turn k n lo hi b e =
-      ap (λ (t : Bool). elim t as (λ _. Halved) [
-        | true ↦ stopped-at n lo hi
-        | false ↦ halve p k (suc n) (nextLower p lo hi) (nextUpper p lo hi)
-      ]) e
-      ∙ same b
-    where
-      same : (b : Bool) → elim b as (λ _. Halved) [
-        | true ↦ stopped-at n lo hi
-        | false ↦ halve p k (suc n) (nextLower p lo hi) (nextUpper p lo hi)
-      ] ≡ cond b (stopped-at n lo hi) (halve p k (suc n) (nextLower p lo hi) (nextUpper p lo hi))
-      same true = refl
-      same false = refl
 
   -- the ends after `if p(m) { lo = m } else { hi = m }`
   abbrev pub Moved : Float → Float → Float → Float → Type 0
@@ -49,24 +29,26 @@ module _ (p : Float → Bool) where
   new-ends lo hi lo′ hi′ (inl (e, a, b)) = (rw (e, a), rw (e, b))
   new-ends lo hi lo′ hi′ (inr (e, a, b)) = (rw (e, a), rw (e, b))
 
-  module _ (n : ℕ) (lo hi lo′ hi′ : Float) (end : Halved) (l : n < 255) (r : halve p (255 - n) n lo hi ≡ end)
-      (m : Moved lo hi lo′ hi′) where
-    fuel : 255 - n ≡ suc (255 - (n + 1))
-    fuel = omega arith
+  module _ (n : ℕ) (lo hi lo′ hi′ : Float) (m : Moved lo hi lo′ hi′) (k : ℕ) where
+    -- one turn, by whether the window repeats
+    abbrev by-window : Bool → Halved
+    by-window b = elim b as (λ _. Halved) [
+      | true ↦ record { lower = nextLower p lo hi; upper = nextUpper p lo hi; count = suc n; stopped = true }
+      | false ↦ halve p k (suc n) (nextLower p lo hi) (nextUpper p lo hi)
+    ]
 
-    same-test : eq (window lo′ hi′) (window lo hi) ≡ repeats p lo hi
-    same-test = rw (m .0, m .1)
+    turn : (b : Bool) → eq (window lo′ hi′) (window lo hi) ≡ b → halve p (suc k) n lo hi ≡ by-window b
+    unfolding halve
+    turn b e =
+        let test : eq (window lo′ hi′) (window lo hi) ≡ repeats p lo hi = rw (m .0, m .1) in
+        ap by-window (sym test ∙ e)
 
-    pub arrives : eq (window lo′ hi′) (window lo hi) ≡ true
-        → record { lower = lo′; upper = hi′; count = n + 1; stopped = true } ≡ end
-    arrives t =
-        (λ i. record { lower = m .0 i; upper = m .1 i; count = add-one n i; stopped = true })
-        ∙ sym (turn (255 - (n + 1)) n lo hi true (sym same-test ∙ t))
-        ∙ ap (λ (k : ℕ). halve p k n lo hi) (sym fuel)
-        ∙ r
+    pub halve-arrives : eq (window lo′ hi′) (window lo hi) ≡ true
+        → halveFrom (suc k) (n, lo, hi) ≡ record { lower = lo′; upper = hi′; count = n + 1; stopped = true }
+    halve-arrives t =
+        turn true t
+        ∙ sym (λ i. record { lower = m .0 i; upper = m .1 i; count = add-one n i; stopped = true })
 
-    pub goes-on : eq (window lo′ hi′) (window lo hi) ≡ false → halve p (255 - (n + 1)) (n + 1) lo′ hi′ ≡ end
-    goes-on t =
-        rw (m .0, m .1, add-one n)
-        (sym (turn (255 - suc n) n lo hi false (sym same-test ∙ t))
-        ∙ ap (λ (k : ℕ). halve p k n lo hi) (sym (fuel ∙ ap (λ (k : ℕ). suc (255 - k)) (add-one n))) ∙ r)
+    pub halve-goes-on : eq (window lo′ hi′) (window lo hi) ≡ false
+        → halveFrom (suc k) (n, lo, hi) ≡ halveFrom k (n + 1, lo′, hi′)
+    halve-goes-on t = turn false t ∙ sym (λ i. halve p k (add-one n i) (m .0 i) (m .1 i))

@@ -1,35 +1,33 @@
--- Every walk from a place to stand keeps the promises (specs/Promise.antt): the counts, the range of the time, and the
--- computed squared distance at the time, at its neighbour and at the probes. Assumes nothing.
+-- Every walk from a place to stand keeps the promises (specs/SafeTime.antt): the counts, the range of the time, and the
+-- computed squared distance at the time, at its neighbour and at the probes. Of any number of probes allowed, and any
+-- threshold above which no step is below zero. Assumes nothing.
 use mathlib.Core.Path.{_≡_, refl, sym, ap, _∙_, subst}
-use mathlib.Core.Bool.{Bool, true, false, cond, not}
+use mathlib.Core.Bool.{Bool, true, false, cond}
 use mathlib.Core.List.{List, _∷_}
-use Prim.Native.Nat.{ℕ, zero, suc, _*_, _≤_, _<_, zero-le, suc-le-suc}
+use Prim.Native.Nat.{ℕ, zero, suc, _≤_, _<_, zero-le, suc-le-suc}
 use native.Mathlib.Nat.{le-trans, le-of-lt, lt-of-lt-of-le}
 use native.Mathlib.Omega.{arith}
-use lib.Dec.{T, ltb, nltb→le, lit≤}
+use lib.Dec.{T, eqb, eqb→eq, lit≤}
 use lib.ListN.{length}
-use lib.Ieee.{Float, nan, inf, fin, binary32, up, down, lt, le, toBits, ofBits}
-use lib.Ieee.Bits.{ofBits-toBits, ofBits-fits}
-use lib.Ieee.Fits.{down-pos}
-use Rattle.number.specs.Number.{zero32, larger, nextUp}
+use lib.Ieee.{Float, binary32, lt, le, eq, ofBits}
+use lib.Ieee.Bits.{ofBits-fits}
+use lib.Ieee.Fits.{eq→eqb}
+use Rattle.number.specs.Number.{zero32, nextUp, written}
 use Rattle.number.specs.Halving.{halve}
+use Rattle.number.proofs.NextUp.{next-of}
 use Rattle.number.proofs.Signs.{plus-up}
-use Rattle.number.proofs.Units.{plus, same-float}
-use Rattle.number.proofs.Units.Compared.{L, Is, lt-is, lt-says, le-says, says-le}
+use Rattle.number.proofs.Units.{zero-is, plus, same-float}
+use Rattle.number.proofs.Units.Compared.{Is, finite-is, eq-is, lt-says, says-lt, le-says, says-le}
 use Rattle.admission.specs.declared.Limits.{Limits}
 use Rattle.ccd3.specs.declared.Answer.{Answer}
 use Rattle.ccd3.specs.declared.Answer.the-variants.{Touching, Contact, Clear, Budget, Refused}
 use Rattle.ccd3.specs.Step.{Visit, next}
-use Rattle.ccd3.specs.Walk.{Walked, visit, above, closing, written, walk}
-use Rattle.ccd3.specs.SafeTime.{squaredPark, InTime, Every, Rising, Stopped}
+use Rattle.ccd3.specs.Walk.{Walked, visit, above, closing, walk}
+use Rattle.ccd3.specs.SafeTime.{InTime, Every, Rising, Stopped}
 use Rattle.ccd3.proofs.WalkLaws.{walk-clears, walk-spends, walk-meets, walk-steps}
 use Rattle.ccd3.proofs.Bracket.{Timely, timely-refl, Bracket, bracket-ends}
 use Rattle.ccd3.proofs.Growth.{above-plus}
-use Rattle.ccd3.proofs.Standing.{zero-timely, Ground, Standing, limit-from, limit-units, stands-on, brackets, next-limit, next-timely, later}
-
-zero-is : Is zero32 0
-unfolding ofBits
-zero-is = refl
+use Rattle.ccd3.proofs.Standing.{zero-timely, Ground, Standing, Forward, limit-from, limit-units, stands-on, brackets, next-limit, next-timely, later}
 
 -- ---- a time with the sign plus is written as it is
 is-zero : (t : Float) (i : Timely t) → i .units ≡ 0 → t ≡ zero32
@@ -38,188 +36,182 @@ is-zero t i e =
     same-float t zero32 0 (i .fit) (ofBits-fits binary32 0) (i .sign) tt (subst (λ (u : ℕ). Is t u) e (i .is)) zero-is
 
 written-plus : (t : Float) → Timely t → t ≡ written t
-unfolding larger
-written-plus t i = go (lt zero32 t) (lt-is zero32 t 0 (i .units) zero-is (i .is))
+unfolding written
+written-plus t i = go (eq t zero32) (eq-is t zero32 (i .units) 0 (i .is) zero-is)
   where
-    go : (b : Bool) → b ≡ ltb 0 (i .units) → t ≡ cond b t zero32
-    go true e = refl
-    go false e = is-zero t i (none (i .units) (nltb→le 0 (i .units) (subst (λ (c : Bool). T (not c)) e tt)))
-      where
-        none : (u : ℕ) → u ≤ 0 → u ≡ 0
-        none u h = omega arith
-
--- ---- the next f32 up
-zero-next : ofBits binary32 (suc (toBits binary32 zero32)) ≡ ofBits binary32 1
-unfolding toBits ofBits
-zero-next = refl
-
-up-next : (x y : Float) → Timely x → Timely y → toBits binary32 y ≡ suc (toBits binary32 x) → y ≡ nextUp x
-unfolding nextUp
-up-next x y i j e = sym (ofBits-toBits binary32 y (j .fit)) ∙ ap (ofBits binary32) e ∙ go x i
-  where
-    none : (a b u d : ℕ) → 0 < d → 0 * a * b ≡ u * d → u ≡ 0
-    none a b zero d h e = refl
-    none a b (suc u) d h e = omega arith
-
-    go : (x : Float) → Timely x → ofBits binary32 (suc (toBits binary32 x)) ≡ nextUp x
-    go (fin false zero e) i =
-        ap (λ (z : Float). ofBits binary32 (suc (toBits binary32 z)))
-        (is-zero (fin false zero e) i (none (up e) L (i .units) (down e) (down-pos e) (i .is)))
-        ∙ zero-next
-    go (fin false (suc m) e) i = refl
-    go (fin true m e) i = absurd (i .sign)
-    go (inf s) i = absurd (i .is)
-    go nan i = absurd (i .is)
+    go : (b : Bool) → b ≡ eqb (i .units) 0 → t ≡ cond b zero32 t
+    go true e = is-zero t i (eqb→eq (i .units) 0 (subst T e tt))
+    go false e = refl
 
 module _ (x₀ dx : List (List Float)) (split : ℕ) (l : Limits) (g : Ground x₀ dx split l) where
-  abbrev far : Float → Bool
-  far = above x₀ dx split (squaredPark l)
-
-  -- what an answer says of a walk that had so many probes left and probed these times
-  abbrev pub Says : ℕ → List Float → Answer → Type 0
-  Says left probed (Contact t) = InTime l t × Stopped x₀ dx split l t
-  Says left probed (Clear t) = (t ≡ written (l .«max_t»)) × Every (λ (u : Float). far u ≡ true) probed
-  Says left probed (Budget t) = InTime l t × (far t ≡ true) × (length probed ≡ left)
-  Says left probed (Touching t) = ⊥
-  Says left probed (Refused n) = ⊥
-
-  pub record Kept (left : ℕ) (v : Visit) (w : Walked) : Type 0 where
-    pub probes : length (w .probed) ≤ left
-    pub halvings : w .halvings ≤ 256
-    pub rising : Rising l (v .time) (w .probed)
-    pub says : Says left (w .probed) (w .answer)
-
   pub in-time : (t : Float) → Timely t → T (le t (l .«max_t»)) → InTime l t
   in-time t i h = record { from = plus-up t (i .sign); to = h; plus = written-plus t i }
 
   -- the time limit as it is answered
   pub clear-in-time : (t : Float) → t ≡ written (l .«max_t») → InTime l t
-  unfolding larger
-  clear-in-time t e =
-      subst (InTime l) (sym e)
-      (go (lt zero32 (l .«max_t»)) (above-plus zero32 (l .«max_t») (zero-timely .sign)))
+  unfolding written
+  clear-in-time t e = subst (InTime l) (sym e) (go (eq (l .«max_t») zero32) is)
     where
-      go : (b : Bool) → (T b → T (plus (l .«max_t»))) → InTime l (cond b (l .«max_t») zero32)
-      go true h =
-          let m = limit-units x₀ dx split l g in
-          let i : Timely (l .«max_t») =
-          record { units = m .0; is = m .1 .is; fit = g .limit-fits; sign = h tt } in
+      m : (u : ℕ) × Is (l .«max_t») u
+      m = (limit-units x₀ dx split l g .0, limit-units x₀ dx split l g .1 .is)
+
+      is : eq (l .«max_t») zero32 ≡ eqb (m .0) 0
+      is = eq-is (l .«max_t») zero32 (m .0) 0 (m .1) zero-is
+
+      some : (u : ℕ) → (u ≡ 0 → ⊥) → 0 < u
+      some u h = omega arith
+
+      go : (b : Bool) → b ≡ eqb (m .0) 0 → InTime l (cond b zero32 (l .«max_t»))
+      go true h = in-time zero32 zero-timely (limit-from x₀ dx split l g)
+      go false h =
+          let up = says-lt zero32 (l .«max_t») 0 (m .0) zero-is (m .1)
+          (some (m .0) (λ k. subst T (sym h) (eq→eqb k))) in
+          let i : Timely (l .«max_t») = record {
+            units = m .0;
+            is = m .1;
+            fit = g .limit-fits;
+            sign = above-plus zero32 (l .«max_t») (zero-timely .sign) up;
+          } in
           in-time (l .«max_t») i (timely-refl (l .«max_t») i)
-      go false h = in-time zero32 zero-timely (limit-from x₀ dx split l g)
 
-  -- a bracket within the limit stops well
-  stopped : (lower upper : Float) → T (le upper (l .«max_t»)) → Bracket far lower upper
-      → InTime l (closing x₀ dx split (squaredPark l) lower upper .lower)
-      × Stopped x₀ dx split l (closing x₀ dx split (squaredPark l) lower upper .lower)
-      × (closing x₀ dx split (squaredPark l) lower upper .count ≤ 256)
-  unfolding closing
-  stopped lower upper h b =
-      let r = bracket-ends far lower upper b in
-      let e = r .0 in
-      let k = r .1 in
-      let c = halve far 255 0 lower upper in
-      let n : c .upper ≡ nextUp (c .lower) = up-next (c .lower) (c .upper) (k .lower) (k .upper) (e .next-up) in
-      let m = limit-units x₀ dx split l g in
-      let a : k .upper .units ≤ b .high .units =
-      le-says (c .upper) upper (k .upper .units) (b .high .units) (k .upper .is) (b .high .is) (k .under) in
-      let a′ : b .high .units ≤ m .0 = le-says upper (l .«max_t») (b .high .units) (m .0) (b .high .is) (m .1 .is) h in
-      let o : k .lower .units < k .upper .units =
-      lt-says (c .lower) (c .upper) (k .lower .units) (k .upper .units) (k .lower .is) (k .upper .is) (e .in-order) in
-      let under : T (le (c .upper) (l .«max_t»)) =
-      says-le (c .upper) (l .«max_t») (k .upper .units) (m .0) (k .upper .is) (m .1 .is) (le-trans a a′) in (
-        in-time (c .lower) (k .lower)
-            (says-le (c .lower) (l .«max_t») (k .lower .units) (m .0) (k .lower .is) (m .1 .is)
-            (le-of-lt (lt-of-lt-of-le o (le-trans a a′)))),
-        record {
-          far = e .true-below;
-          next-near = ap far (sym n) ∙ e .false-above;
-          next-in-time = subst (λ (t : Float). T (le t (l .«max_t»))) n under;
-        },
-        le-trans (e .bounded) (lit≤ tt),
-      )
+  -- ---- over a threshold
+  module _ (threshold : Float) where
+    abbrev far : Float → Bool
+    far = above x₀ dx split threshold
 
-  -- ---- every walk
-  every : (left : ℕ) (t : Float) (ps : List Float) → far t ≡ true → (a : Answer) → Says left ps a
-      → Says (suc left) (t ∷ ps) a
-  unfolding Every
-  every left t ps f (Contact u) h = h
-  every left t ps f (Clear u) h = (h .0, (f, h .1))
-  every left t ps f (Budget u) h = (h .0, h .1, ap suc (h .2))
+    -- what an answer says of a walk that had so many probes left and probed these times
+    abbrev pub Says : ℕ → List Float → Answer → Type 0
+    Says left probed (Contact t) = InTime l t × Stopped far l t
+    Says left probed (Clear t) = (t ≡ written (l .«max_t»)) × Every (λ (u : Float). far u ≡ true) probed
+    Says left probed (Budget t) = InTime l t × (far t ≡ true) × (length probed ≡ left)
+    Says left probed (Touching t) = ⊥
+    Says left probed (Refused n) = ⊥
 
-  module _ (v : Visit) (s : Standing x₀ dx split l g v) where
-    abbrev t : Float
-    t = next dx split l v
+    pub record Kept (left : ℕ) (v : Visit) (w : Walked) : Type 0 where
+      pub probes : length (w .probed) ≤ left
+      pub halvings : w .ending .halvings ≤ 256
+      pub rising : Rising l (v .time) (w .probed)
+      pub says : Says left (w .probed) (w .ending .answer)
 
-    abbrev W : ℕ → Visit → Walked
-    W = walk x₀ dx split (squaredPark l) l
+    -- a bracket within the limit stops well
+    stopped : (lower upper : Float) → T (le upper (l .«max_t»)) → Bracket far lower upper
+        → InTime l (closing x₀ dx split threshold lower upper .lower)
+        × Stopped far l (closing x₀ dx split threshold lower upper .lower)
+        × (closing x₀ dx split threshold lower upper .count ≤ 256)
+    unfolding closing
+    stopped lower upper h b =
+        let r = bracket-ends far lower upper b in
+        let e = r .0 in
+        let k = r .1 in
+        let c = halve far 255 0 lower upper in
+        let n : c .upper ≡ nextUp (c .lower) =
+        next-of (c .lower) (c .upper) (finite-is (c .lower) (k .lower .units) (k .lower .is)) (k .lower .sign)
+        (k .upper .fit) (e .next-up) in
+        let m = limit-units x₀ dx split l g in
+        let a : k .upper .units ≤ b .high .units =
+        le-says (c .upper) upper (k .upper .units) (b .high .units) (k .upper .is) (b .high .is) (k .under) in
+        let a′ : b .high .units ≤ m .0 = le-says upper (l .«max_t») (b .high .units) (m .0) (b .high .is) (m .1 .is) h in
+        let o : k .lower .units < k .upper .units =
+        lt-says (c .lower) (c .upper) (k .lower .units) (k .upper .units) (k .lower .is) (k .upper .is) (e .in-order) in
+        let under : T (le (c .upper) (l .«max_t»)) =
+        says-le (c .upper) (l .«max_t») (k .upper .units) (m .0) (k .upper .is) (m .1 .is) (le-trans a a′) in (
+          in-time (c .lower) (k .lower)
+              (says-le (c .lower) (l .«max_t») (k .lower .units) (m .0) (k .lower .is) (m .1 .is)
+              (le-of-lt (lt-of-lt-of-le o (le-trans a a′)))),
+          record {
+            far = e .true-below;
+            next-near = ap far (sym n) ∙ e .false-above;
+            next-in-time = subst (λ (t : Float). T (le t (l .«max_t»))) n under;
+          },
+          le-trans (e .bounded) (lit≤ tt),
+        )
 
-    -- a probe is made in time, and not before the time where the walk stands
-    probe-rises : lt (l .«max_t») t ≡ false → T (le (v .time) t) × InTime l t
-    probe-rises p = (
-      later x₀ dx split l g v s .0,
-      in-time t (next-timely x₀ dx split l g v s p) (next-limit x₀ dx split l g v s p),
-    )
+    -- ---- every walk
+    every : (left : ℕ) (t : Float) (ps : List Float) → far t ≡ true → (a : Answer) → Says left ps a
+        → Says (suc left) (t ∷ ps) a
+    unfolding Every
+    every left t ps f (Contact u) h = h
+    every left t ps f (Clear u) h = (h .0, (f, h .1))
+    every left t ps f (Budget u) h = (h .0, h .1, ap suc (h .2))
 
-    clear-keeps : (left : ℕ) → lt (l .«max_t») t ≡ true → Kept left v (W left v)
-    unfolding Every Rising
-    clear-keeps left p =
-        subst (Kept left v) (sym (walk-clears x₀ dx split (squaredPark l) l left v p))
-        (record { probes = zero-le; halvings = zero-le; rising = tt; says = (refl, tt) })
+    module _ (forward : Forward x₀ dx split l g threshold) where
+      abbrev W : ℕ → Visit → Walked
+      W = walk x₀ dx split threshold l
 
-    spent-keeps : lt (l .«max_t») t ≡ false → Kept 0 v (W 0 v)
-    unfolding Rising
-    spent-keeps p =
-        subst (Kept 0 v) (sym (walk-spends x₀ dx split (squaredPark l) l v p))
-        (record {
-          probes = zero-le;
-          halvings = zero-le;
-          rising = tt;
-          says = (in-time (v .time) (s .time) (s .in-limit), s .apart-at, refl);
-        })
+      abbrev Stands : Visit → Type 0
+      Stands = Standing x₀ dx split l g threshold
 
-    met-keeps : (left : ℕ) → lt (l .«max_t») t ≡ false → far t ≡ false → Kept (suc left) v (W (suc left) v)
-    unfolding Rising
-    met-keeps left p a =
-        let r = stopped (v .time) t (next-limit x₀ dx split l g v s p) (brackets x₀ dx split l g v s p a) in
-        let q = probe-rises p in
-        subst (Kept (suc left) v) (sym (walk-meets x₀ dx split (squaredPark l) l left v p a))
-        (record {
-          probes = suc-le-suc zero-le;
-          halvings = r .2;
-          rising = (q .0, q .1, tt);
-          says = (r .0, r .1);
-        })
+      module _ (v : Visit) (s : Stands v) where
+        abbrev t : Float
+        t = next dx split l v
 
-    step-keeps : (left : ℕ) → lt (l .«max_t») t ≡ false → far t ≡ true
-        → Kept left (visit x₀ dx split t) (W left (visit x₀ dx split t)) → Kept (suc left) v (W (suc left) v)
-    unfolding Rising
-    step-keeps left p a k =
-        let w = W left (visit x₀ dx split t) in
-        let q = probe-rises p in
-        subst (Kept (suc left) v) (sym (walk-steps x₀ dx split (squaredPark l) l left v p a))
-        (record {
-          probes = suc-le-suc (k .probes);
-          halvings = k .halvings;
-          rising = (q .0, q .1, k .rising);
-          says = every left t (w .probed) a (w .answer) (k .says);
-        })
+        -- a probe is made in time, and not before the time where the walk stands
+        probe-rises : lt (l .«max_t») t ≡ false → T (le (v .time) t) × InTime l t
+        probe-rises p = (
+          later x₀ dx split l g threshold forward v s .0,
+          in-time t (next-timely x₀ dx split l g threshold forward v s p)
+              (next-limit x₀ dx split l g threshold forward v s p),
+        )
 
-  pub walk-keeps : (left : ℕ) (v : Visit) → Standing x₀ dx split l g v
-      → Kept left v (walk x₀ dx split (squaredPark l) l left v)
-  walk-keeps zero v s = go (lt (l .«max_t») (next dx split l v)) refl
-    where
-      go : (b : Bool) → lt (l .«max_t») (next dx split l v) ≡ b → Kept 0 v (walk x₀ dx split (squaredPark l) l 0 v)
-      go true p = clear-keeps v s 0 p
-      go false p = spent-keeps v s p
-  walk-keeps (suc left) v s =
-      go (lt (l .«max_t») (next dx split l v)) (far (next dx split l v)) refl refl
-      (walk-keeps left (visit x₀ dx split (next dx split l v)))
-    where
-      go : (b c : Bool) → lt (l .«max_t») (next dx split l v) ≡ b → far (next dx split l v) ≡ c
-          → (Standing x₀ dx split l g (visit x₀ dx split (next dx split l v))
-          → Kept left (visit x₀ dx split (next dx split l v))
-          (walk x₀ dx split (squaredPark l) l left (visit x₀ dx split (next dx split l v))))
-          → Kept (suc left) v (walk x₀ dx split (squaredPark l) l (suc left) v)
-      go true c p a h = clear-keeps v s (suc left) p
-      go false true p a h = step-keeps v s left p a (h (stands-on x₀ dx split l g v s p a))
-      go false false p a h = met-keeps v s left p a
+        clear-keeps : (left : ℕ) → lt (l .«max_t») t ≡ true → Kept left v (W left v)
+        unfolding Every Rising
+        clear-keeps left p =
+            subst (Kept left v) (sym (walk-clears x₀ dx split threshold l left v p))
+            (record { probes = zero-le; halvings = zero-le; rising = tt; says = (refl, tt) })
+
+        spent-keeps : lt (l .«max_t») t ≡ false → Kept 0 v (W 0 v)
+        unfolding Rising
+        spent-keeps p =
+            subst (Kept 0 v) (sym (walk-spends x₀ dx split threshold l v p))
+            (record {
+              probes = zero-le;
+              halvings = zero-le;
+              rising = tt;
+              says = (in-time (v .time) (s .time) (s .in-limit), s .apart-at, refl);
+            })
+
+        met-keeps : (left : ℕ) → lt (l .«max_t») t ≡ false → far t ≡ false → Kept (suc left) v (W (suc left) v)
+        unfolding Rising
+        met-keeps left p a =
+            let r = stopped (v .time) t (next-limit x₀ dx split l g threshold forward v s p)
+            (brackets x₀ dx split l g threshold forward v s p a) in
+            let q = probe-rises p in
+            subst (Kept (suc left) v) (sym (walk-meets x₀ dx split threshold l left v p a))
+            (record {
+              probes = suc-le-suc zero-le;
+              halvings = r .2;
+              rising = (q .0, q .1, tt);
+              says = (r .0, r .1);
+            })
+
+        step-keeps : (left : ℕ) → lt (l .«max_t») t ≡ false → far t ≡ true
+            → Kept left (visit x₀ dx split t) (W left (visit x₀ dx split t)) → Kept (suc left) v (W (suc left) v)
+        unfolding Rising
+        step-keeps left p a k =
+            let w = W left (visit x₀ dx split t) in
+            let q = probe-rises p in
+            subst (Kept (suc left) v) (sym (walk-steps x₀ dx split threshold l left v p a))
+            (record {
+              probes = suc-le-suc (k .probes);
+              halvings = k .halvings;
+              rising = (q .0, q .1, k .rising);
+              says = every left t (w .probed) a (w .ending .answer) (k .says);
+            })
+
+      pub walk-keeps : (left : ℕ) (v : Visit) → Stands v → Kept left v (W left v)
+      walk-keeps zero v s = go (lt (l .«max_t») (next dx split l v)) refl
+        where
+          go : (b : Bool) → lt (l .«max_t») (next dx split l v) ≡ b → Kept 0 v (W 0 v)
+          go true p = clear-keeps v s 0 p
+          go false p = spent-keeps v s p
+      walk-keeps (suc left) v s =
+          go (lt (l .«max_t») (next dx split l v)) (far (next dx split l v)) refl refl
+          (walk-keeps left (visit x₀ dx split (next dx split l v)))
+        where
+          go : (b c : Bool) → lt (l .«max_t») (next dx split l v) ≡ b → far (next dx split l v) ≡ c
+              → (Stands (visit x₀ dx split (next dx split l v))
+              → Kept left (visit x₀ dx split (next dx split l v)) (W left (visit x₀ dx split (next dx split l v))))
+              → Kept (suc left) v (W (suc left) v)
+          go true c p a h = clear-keeps v s (suc left) p
+          go false true p a h = step-keeps v s left p a (h (stands-on x₀ dx split l g threshold forward v s p a))
+          go false false p a h = met-keeps v s left p a

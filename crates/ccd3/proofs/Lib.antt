@@ -2,10 +2,11 @@
 pub mod WalkLaws
 pub mod StartLaws
 pub mod Bracket
-pub mod PlainStep
 pub mod Growth
+pub mod PlainStep
 pub mod Standing
 pub mod Kept
+pub mod Threshold
 pub mod Admitted
 pub mod Promises
 mod Handed

@@ -1,35 +1,33 @@
--- The plain step of a walk is not below zero: where the squared distance is above the computed square of park, its
--- root is not below dip (specs/Step.antt). Assumes nothing.
+-- The plain step from a squared distance above the computed square of park is not below zero: its root is not below dip
+-- (specs/Step.antt). Assumes nothing.
 use mathlib.Core.Path.{_≡_, refl, sym, _∙_, subst}
 use mathlib.Core.Bool.{true, false}
-use Prim.Native.Nat.{ℕ, _+_, _-_, _*_, _^_, _≤_, _<_}
-use native.Mathlib.Nat.{
-  le-refl,
-  le-trans,
-  le-of-eq,
-  le-of-lt,
-  lt-of-le-of-lt,
-  mul-le-mul,
-  mul-le-mul-right,
-  mul-le-mul-left,
-  one-mul,
-  le-of-mul-le-mul-right,
-}
+use Prim.Native.Nat.{ℕ, _+_, _-_, _*_, _^_, _≤_, _<_, zero, suc, zero-le}
+use native.Mathlib.Nat.{le-refl, le-trans, le-of-eq, le-of-lt, lt-of-le-of-lt, mul-le-mul, mul-le-mul-right, mul-le-mul-left, one-mul, le-of-mul-le-mul-right}
 use native.Mathlib.Omega.{arith}
-use lib.Dec.{T, lit<, lit≤}
+use lib.Dec.{T, lit<, lit≤, ltb, ltb→lt, lt→ltb}
 use lib.Pow.{pow-pos}
-use lib.Ieee.{Float, fin, up, down, neg, sub, lt, ofBits}
-use lib.Ieee.Fits.{down-pos}
-use Rattle.number.specs.Number.{_⊖_, _⊗_, half32}
+use lib.Ieee.{Float, fin, up, down, neg, sub, lt, ofBits, binary32, le, fits}
+use lib.Ieee.Fits.{down-pos, mul-fits, and-l, and-r}
+use Rattle.number.specs.Number.{_⊖_, _⊗_, half32, _⊘_, zero32, one32, bound, zeroToBound, speedRange}
 use Rattle.number.proofs.Plus.{round-plus}
 use Rattle.number.proofs.Products.{mul-is, sum-mono, above-square, Root, root-above}
 use Rattle.number.proofs.Rounding.{rnd, Rep, rnd-mono, rnd-fix, rnd-rep}
 use Rattle.number.proofs.Sums.{add-is}
 use Rattle.number.proofs.Sums.Rounded.{add-opens, sum-ff, sum-ft}
-use Rattle.number.proofs.Units.{Unit32, plus}
-use Rattle.number.proofs.Units.Compared.{L, Is, left, right}
+use Rattle.number.proofs.Units.{Unit32, plus, of-float}
+use Rattle.number.proofs.Units.Compared.{L, Is, left, right, lt-says, says-lt, le-says}
 use Rattle.admission.specs.declared.Limits.{Limits}
-use Rattle.ccd3.specs.Step.{park, dip}
+use Rattle.ccd3.specs.Step.{park, dip, plain}
+use lib.Ieee.Positive.{positive}
+use lib.Ieee.Scale.{finite}
+use Rattle.number.specs.Root.{rootOf}
+use Rattle.number.proofs.Quotients.{div-within}
+use Rattle.number.proofs.Signs.{plus-up, square-plus, product-plus, quotient-plus}
+use Rattle.number.proofs.SquareRoot.Bounds.{RootUnits, root-facts, root-within}
+use Rattle.number.proofs.Ranges.{zero-to-bound, speed-range}
+use Rattle.number.proofs.Within.{Within, within-finite, within-more, add-within, sub-within, mul-within}
+use Rattle.ccd3.proofs.Growth.{Sound}
 
 -- 2 ^ 20 in units
 abbrev pub Most : ℕ
@@ -127,3 +125,102 @@ module _ (l : Limits) (d root : Float) (u w v R : ℕ) (io : Unit32 (l .offset) 
   -- what the root leaves above dip
   pub excess-plus : T (plus root) → T (plus (root ⊖ dip l))
   excess-plus s = difference-plus root (dip l) R D (ir .is) dip-is s dip-under
+
+-- ---- of given limits
+from-zero : (x : Float) → T (zeroToBound x) → T (le zero32 x)
+from-zero x h = and-l (le zero32 x) (le x bound) h
+
+limit-is : Is bound Most
+unfolding ofBits
+limit-is = refl
+
+-- a number from 0 to 2 ^ 20, in units
+limited : (x : Float) → T (fits binary32 x) → T (zeroToBound x) → (u : ℕ) × Unit32 x u × (u ≤ Most)
+limited x f h =
+    let i = of-float x f (within-finite 20 x (zero-to-bound x h .1)) (from-zero x h) in
+    (i .0, i .1, le-says x bound (i .0) Most (i .1 .is) limit-is (and-r (le zero32 x) (le x bound) h))
+
+positive-of : (u : Float) → T (lt zero32 u) → T (finite u) → T (positive u)
+unfolding lt ofBits
+positive-of (fin false n d) h f = lt→ltb 0 n (some n (up d) (down d) (ltb→lt (0 * 1 * down d) (n * up d * 1) h))
+  where
+    some : (n u d : ℕ) → 0 * 1 * d < n * u * 1 → 0 < n
+    some zero u d h = omega arith
+    some (suc n) u d h = omega arith
+positive-of (fin true n d) h f = absurd h
+
+one-facts : Within 0 one32 × T (plus one32)
+unfolding ofBits
+one-facts = (lit≤ tt, tt)
+
+inverse-sound : (u : Float) → T (speedRange u) → Within 60 (one32 ⊘ u) × T (plus (one32 ⊘ u))
+inverse-sound u h =
+    let s = speed-range u h in (
+      div-within 0 60 one32 u (lit≤ tt) (one-facts .0) (s .1),
+      quotient-plus one32 u (within-finite 0 one32 (one-facts .0)) (positive-of u (s .0) (within-finite 60 u (s .2)))
+          (one-facts .1),
+    )
+
+half-within : Within 0 half32
+unfolding ofBits
+half-within = lit≤ tt
+
+-- what a walk is given: limits in their ranges, each an f32
+pub record Given (l : Limits) : Type 0 where
+  pub offset-fits : T (fits binary32 (l .offset))
+  pub clearance-fits : T (fits binary32 (l .clearance))
+  pub offset-in : T (zeroToBound (l .offset))
+  pub clearance-in : T (zeroToBound (l .clearance))
+  pub speed-in : T (speedRange (l .«u_max»))
+
+module _ (l : Limits) (g : Given l) where
+  dip-within : Within 21 (dip l)
+  dip-within =
+      add-within 20 (l .offset) (l .clearance ⊗ half32) (lit≤ tt) (zero-to-bound (l .offset) (g .offset-in) .1)
+      (mul-within 20 0 (l .clearance) half32 (lit≤ tt) (zero-to-bound (l .clearance) (g .clearance-in) .1) half-within)
+
+  park-within : Within 21 (park l)
+  park-within =
+      add-within 20 (l .offset) (l .clearance) (lit≤ tt) (zero-to-bound (l .offset) (g .offset-in) .1)
+      (zero-to-bound (l .clearance) (g .clearance-in) .1)
+
+  square-units : (a : ℕ) (x : Float) → a + a ≤ 127 → Within a x → (u : ℕ) × Unit32 (x ⊗ x) u
+  square-units a x small h =
+      of-float (x ⊗ x) (mul-fits binary32 x x) (within-finite (a + a) (x ⊗ x) (mul-within a a x x small h h))
+      (plus-up (x ⊗ x) (square-plus x (within-finite a x h)))
+
+  pub squared-park : (u : ℕ) × Unit32 (park l ⊗ park l) u
+  squared-park = square-units 21 (park l) (lit≤ tt) park-within
+
+  pub squared-offset : (u : ℕ) × Unit32 (l .offset ⊗ l .offset) u
+  squared-offset = square-units 20 (l .offset) (lit≤ tt) (zero-to-bound (l .offset) (g .offset-in) .1)
+
+module _ (l : Limits) (g : Given l) (d : Float) (s : Sound d) (above : T (lt (park l ⊗ park l) d)) where
+  own : (v : ℕ) × Unit32 d v
+  own = of-float d (s .fit) (within-finite 60 d (s .bound)) (plus-up d (s .sign))
+
+  positive-own : T (lt zero32 d)
+  unfolding ofBits
+  positive-own =
+      says-lt zero32 d 0 (own .0) refl (own .1 .is)
+      (lt-of-le-of-lt zero-le
+      (lt-says (park l ⊗ park l) d (squared-park l g .0) (own .0) (squared-park l g .1 .is) (own .1 .is) above))
+
+  root : RootUnits d (own .0)
+  root = root-facts d (own .0) (s .fit) positive-own (own .1 .is)
+
+  excess : T (plus (rootOf d ⊖ dip l))
+  excess =
+      let o = limited (l .offset) (g .offset-fits) (g .offset-in) in
+      let c = limited (l .clearance) (g .clearance-fits) (g .clearance-in) in
+      excess-plus l d (rootOf d) (o .0) (c .0) (own .0) (root .units) (o .1) (c .1) (own .1) (root .is) (o .2) (c .2)
+      (root .near) above (root .sign)
+
+  pub plain-plus : T (plus (plain l (rootOf d)))
+  plain-plus =
+      let i = inverse-sound (l .«u_max») (g .speed-in) in
+      product-plus (rootOf d ⊖ dip l) (one32 ⊘ l .«u_max»)
+      (within-finite 31 (rootOf d ⊖ dip l)
+      (sub-within 30 (rootOf d) (dip l) (lit≤ tt) (root-within 30 d (lit≤ tt) (s .fit) (s .bound))
+      (within-more 21 30 (dip l) (lit≤ tt) (dip-within l g))))
+      (within-finite 60 (one32 ⊘ l .«u_max») (i .0)) excess (i .1)

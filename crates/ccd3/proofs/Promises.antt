@@ -1,5 +1,5 @@
--- Every answer of the safe time keeps its promises (specs/Promise.antt): a theorem of the definition, for any numbers
--- that are handed over as f32. Assumes nothing.
+-- Every answer of the safe time keeps its promises (specs/SafeTime.antt): a theorem of the definition, for any numbers
+-- that are handed over as f32 and any number of probes allowed. Assumes nothing.
 use mathlib.Core.Path.{_≡_, refl, sym, ap, _∙_, subst}
 use mathlib.Core.Bool.{Bool, true, false}
 use mathlib.Core.List.{List}
@@ -8,31 +8,33 @@ use native.Mathlib.Nat.{zero-add}
 use native.Mathlib.Omega.{arith}
 use lib.Dec.{lit≤}
 use lib.ListN.{length}
-use lib.Ieee.{Float}
+use lib.Ieee.{Float, lt}
 use Rattle.number.specs.Number.{zero32}
 use Rattle.admission.specs.declared.Limits.{Limits}
-use Rattle.admission.specs.Admission.{walkRefusal}
-use Rattle.admission.proofs.Admitted.{walk-admits}
+use Rattle.admission.proofs.Admitted.{Walkable, walk-admits}
 use Rattle.ccd3.specs.declared.Answer.{Answer}
 use Rattle.ccd3.specs.declared.Answer.the-variants.{Touching, Contact, Clear, Budget, Refused}
-use Rattle.ccd3.specs.Walk.{refusalOf, kindOf, timeOf, Walked, start, told}
-use Rattle.ccd3.specs.SafeTime.{allowance, still, touches, between, safeRefusal, safeWalk, safeTimeOf, InTime, Every, Rising, isFar, Touched, Stopped, Passed, Paused, Promised, Promises}
+use Rattle.ccd3.specs.Walk.{refusalOf, kindOf, timeOf, Walked, start}
+use Rattle.ccd3.specs.SafeTime.{threshold, allowance, still, firstSquared, touches, between, safeRefusal, safeWalk, safeTimeOf, InTime, Every, Rising, isFar, Touched, Stopped, Passed, Paused, Promised, Promises}
 use Rattle.ccd3.proofs.StartLaws.{walked, number-none, safe-refused, safe-touches, safe-walks}
-use Rattle.ccd3.proofs.Standing.{zero-timely, Ground, limit-from, start-number, number-at, start-far, start-stands}
+use Rattle.ccd3.proofs.Standing.{zero-timely, Ground, limit-from, start-number, number-at, start-stands}
 use Rattle.ccd3.proofs.Kept.{Says, Kept, in-time, clear-in-time, walk-keeps}
-use Rattle.ccd3.proofs.Admitted.{Fitting, ground}
+use Rattle.ccd3.proofs.Threshold.{start-far, forward}
+use Rattle.ccd3.proofs.Admitted.{Fitting, ground, given}
 
-module _ (x₀ dx : List (List Float)) (split : ℕ) (l : Limits) where
+module _ (x₀ dx : List (List Float)) (split : ℕ) (l : Limits) (allowed : ℕ) where
   abbrev Keeps : Walked → Type 0
-  Keeps w = Promises x₀ dx split l (told 0 w)
+  Keeps w =
+      let a = w .ending .answer in
+      Promised x₀ dx split l allowed (refusalOf a) (kindOf a) (timeOf a) (0 + length (w .probed)) (w .ending .halvings)
 
   refused-keeps : (n : ℕ) → safeRefusal x₀ dx split l ≡ suc n
-      → safeWalk x₀ dx split l ≡ still (Refused (suc n)) → Keeps (still (Refused (suc n)))
+      → safeWalk x₀ dx split l allowed ≡ still (Refused (suc n)) → Keeps (still (Refused (suc n)))
   unfolding refusalOf kindOf timeOf
   refused-keeps n e is = record {
     number = sym e;
     probes-counted = sym (ap (λ (w : Walked). length (w .probed)) is);
-    halvings-counted = sym (ap (λ (w : Walked). w .halvings) is);
+    halvings-counted = sym (ap (λ (w : Walked). w .ending .halvings) is);
     few-probes = zero-le;
     few-halvings = zero-le;
     refused = λ h. record { is-kind = refl; no-time = refl; no-probes = refl; no-halvings = refl };
@@ -45,18 +47,22 @@ module _ (x₀ dx : List (List Float)) (split : ℕ) (l : Limits) where
     budget = λ h. absurd (omega arith);
   }
 
-  module _ (e : safeRefusal x₀ dx split l ≡ 0) (g : Ground x₀ dx split l) where
+  module _ (e : safeRefusal x₀ dx split l ≡ 0) (adm : Walkable x₀ dx split l) (fit : Fitting x₀ l) where
+    abbrev g : Ground x₀ dx split l
+    g = ground x₀ dx split l adm fit
+
     -- not refused: what every kind promises, with the clauses of the kinds
-    module _ (w : Walked) (is : safeWalk x₀ dx split l ≡ w) (few : length (w .probed) ≤ allowance)
-        (halves : w .halvings ≤ 256) (rises : Rising l zero32 (w .probed)) where
+    module _ (w : Walked) (is : safeWalk x₀ dx split l allowed ≡ w) (few : length (w .probed) ≤ allowed)
+        (halves : w .ending .halvings ≤ 256) (rises : Rising l zero32 (w .probed)) where
       unrefused : (kind : ℕ) (t : Float) → kind ≤ 3 → InTime l t
-          → (kind ≡ 0 → Touched x₀ dx split l t) → (kind ≡ 1 → Stopped x₀ dx split l t)
-          → (kind ≡ 2 → Passed x₀ dx split l t) → (kind ≡ 3 → Paused x₀ dx split l t (0 + length (w .probed)))
-          → Promised x₀ dx split l 0 kind t (0 + length (w .probed)) (w .halvings)
+          → (kind ≡ 0 → Touched x₀ dx split l allowed t) → (kind ≡ 1 → Stopped (isFar x₀ dx split l allowed) l t)
+          → (kind ≡ 2 → Passed x₀ dx split l allowed t) → (kind ≡ 3 → Paused x₀ dx split l allowed t (0 + length (w .probed)))
+          → Promised x₀ dx split l allowed 0 kind t (0 + length (w .probed)) (w .ending .halvings)
+      unfolding firstSquared
       unrefused kind t small i touched stopped passed paused = record {
         number = sym e;
         probes-counted = zero-add _ ∙ sym (ap (λ (v : Walked). length (v .probed)) is);
-        halvings-counted = sym (ap (λ (v : Walked). v .halvings) is);
+        halvings-counted = sym (ap (λ (v : Walked). v .ending .halvings) is);
         few-probes = rw zero-add few;
         few-halvings = halves;
         refused = λ n. absurd (n refl);
@@ -73,7 +79,7 @@ module _ (x₀ dx : List (List Float)) (split : ℕ) (l : Limits) where
         budget = paused;
       }
 
-    touching-keeps : touches x₀ dx split l ≡ true → safeWalk x₀ dx split l ≡ still (Touching zero32)
+    touching-keeps : touches x₀ dx split l ≡ true → safeWalk x₀ dx split l allowed ≡ still (Touching zero32)
         → Keeps (still (Touching zero32))
     unfolding refusalOf kindOf timeOf Rising
     touching-keeps t is =
@@ -85,16 +91,22 @@ module _ (x₀ dx : List (List Float)) (split : ℕ) (l : Limits) where
     -- a walk, by its answer
     module _ (b : between x₀ dx split l ≡ false) (t : touches x₀ dx split l ≡ false) where
       abbrev w : Walked
-      w = walked x₀ dx split l
+      w = walked x₀ dx split l allowed
 
-      is : safeWalk x₀ dx split l ≡ w
-      is = safe-walks x₀ dx split l e t
+      is : safeWalk x₀ dx split l allowed ≡ w
+      is = safe-walks x₀ dx split l allowed e t
 
-      kept : Kept x₀ dx split l g allowance (start x₀ dx split) w
-      kept = walk-keeps x₀ dx split l g allowance (start x₀ dx split) (start-stands x₀ dx split l g b t)
+      begins : lt (threshold l) (firstSquared x₀ dx split l) ≡ true
+      begins = start-far x₀ dx split l g (given x₀ dx split l adm fit) b t
 
-      by-answer : (a : Answer) → Says x₀ dx split l g allowance (w .probed) a
-          → Promised x₀ dx split l (refusalOf a) (kindOf a) (timeOf a) (0 + length (w .probed)) (w .halvings)
+      kept : Kept x₀ dx split l g (threshold l) allowed (start x₀ dx split) w
+      unfolding firstSquared
+      kept =
+          walk-keeps x₀ dx split l g (threshold l) (forward x₀ dx split l g (given x₀ dx split l adm fit)) allowed
+          (start x₀ dx split) (start-stands x₀ dx split l g (threshold l) begins)
+
+      by-answer : (a : Answer) → Says x₀ dx split l g (threshold l) allowed (w .probed) a
+          → Promised x₀ dx split l allowed (refusalOf a) (kindOf a) (timeOf a) (0 + length (w .probed)) (w .ending .halvings)
       unfolding refusalOf kindOf timeOf
       by-answer (Contact u) h =
           unrefused w is (kept .probes) (kept .halvings) (kept .rising) 1 u (lit≤ tt) (h .0)
@@ -104,9 +116,9 @@ module _ (x₀ dx : List (List Float)) (split : ℕ) (l : Limits) where
           (clear-in-time x₀ dx split l g u (h .0)) (λ n. absurd (omega arith)) (λ n. absurd (omega arith))
           (λ n. record {
             is-limit = h .0;
-            start-far = start-far x₀ dx split l g b t;
+            start-far = begins;
             probes-far =
-                subst (λ (v : Walked). Every (λ (u : Float). isFar x₀ dx split l u ≡ true) (v .probed)) (sym is)
+                subst (λ (v : Walked). Every (λ (u : Float). isFar x₀ dx split l allowed u ≡ true) (v .probed)) (sym is)
                 (h .1);
           })
           (λ n. absurd (omega arith))
@@ -116,24 +128,28 @@ module _ (x₀ dx : List (List Float)) (split : ℕ) (l : Limits) where
           (λ n. record { far = h .1; all-made = rw zero-add (h .2) })
 
       walk-promised : Keeps w
-      walk-promised = by-answer (w .answer) (kept .says)
+      walk-promised = by-answer (w .ending .answer) (kept .says)
 
-  -- the promises of every answer
-  pub safe-time-promised : Fitting x₀ l → Promises x₀ dx split l (safeTimeOf x₀ dx split l)
-  unfolding safeTimeOf
-  safe-time-promised f = go (safeRefusal x₀ dx split l) (touches x₀ dx split l) refl refl
+  -- the promises of every walk
+  walk-promised-all : Fitting x₀ l → Keeps (safeWalk x₀ dx split l allowed)
+  walk-promised-all f = go (safeRefusal x₀ dx split l) (touches x₀ dx split l) refl refl
     where
-      stands : walkRefusal x₀ dx split l ≡ 0 → Ground x₀ dx split l
-      stands e = ground x₀ dx split l (walk-admits x₀ dx split l e) f
-
       go : (n : ℕ) (t : Bool) → safeRefusal x₀ dx split l ≡ n → touches x₀ dx split l ≡ t
-          → Keeps (safeWalk x₀ dx split l)
+          → Keeps (safeWalk x₀ dx split l allowed)
       go (suc n) t e h =
-          let is = safe-refused x₀ dx split l (suc n) e (λ k. omega arith) in
+          let is = safe-refused x₀ dx split l allowed (suc n) e (λ k. omega arith) in
           subst Keeps (sym is) (refused-keeps n e is)
       go zero true e h =
-          let is = safe-touches x₀ dx split l e h in
-          subst Keeps (sym is) (touching-keeps e (stands (number-none x₀ dx split l e .0)) h is)
+          let is = safe-touches x₀ dx split l allowed e h in
+          let k = number-none x₀ dx split l e in
+          subst Keeps (sym is) (touching-keeps e (walk-admits x₀ dx split l (k .0)) f h is)
       go zero false e h =
           let k = number-none x₀ dx split l e in
-          subst Keeps (sym (safe-walks x₀ dx split l e h)) (walk-promised e (stands (k .0)) (k .1) h)
+          subst Keeps (sym (safe-walks x₀ dx split l allowed e h))
+          (walk-promised e (walk-admits x₀ dx split l (k .0)) f (k .1) h)
+
+-- the promises of every answer
+pub safe-time-promised : (x₀ dx : List (List Float)) (split : ℕ) (l : Limits) → Fitting x₀ l
+    → Promises x₀ dx split l (safeTimeOf x₀ dx split l)
+unfolding safeTimeOf
+safe-time-promised x₀ dx split l f = walk-promised-all x₀ dx split l allowance f

@@ -10,7 +10,7 @@ use Rattle.admission.specs.declared.Limits.{Limits}
 use Rattle.admission.specs.Admission.{walkRefusal}
 use Rattle.ccd3.specs.declared.Answer.the-variants.{Touching, Refused}
 use Rattle.ccd3.specs.Walk.{Walked, start, walk}
-use Rattle.ccd3.specs.SafeTime.{squaredPark, allowance, still, touches, between, safeRefusal, safeWalk}
+use Rattle.ccd3.specs.SafeTime.{threshold, still, touches, between, safeRefusal, safeWalk}
 
 module _ (x₀ dx : List (List Float)) (split : ℕ) (l : Limits) where
   -- ---- the refusal's number
@@ -39,26 +39,28 @@ module _ (x₀ dx : List (List Float)) (split : ℕ) (l : Limits) where
           let z : 0 ≡ suc n = sym e ∙ number-admission (suc n) h (λ m. omega arith) in absurd (omega arith)
 
   -- ---- the walk
-  abbrev pub walked : Walked
-  walked = walk x₀ dx split (squaredPark l) l allowance (start x₀ dx split)
+  module _ (allowed : ℕ) where
+    abbrev pub walked : Walked
+    walked = walk x₀ dx split (threshold l) l allowed (start x₀ dx split)
 
-  abbrev by-touch : Bool → Walked
-  by-touch b = elim b as (λ _. Walked) [ true ↦ still (Touching zero32) | false ↦ walked ]
+    abbrev by-touch : Bool → Walked
+    by-touch b = elim b as (λ _. Walked) [ true ↦ still (Touching zero32) | false ↦ walked ]
 
-  abbrev by-number : ℕ → Walked
-  by-number n = elim n as (λ _. Walked) [ zero ↦ by-touch (touches x₀ dx split l) | suc k ↦ still (Refused (suc k)) ]
+    abbrev by-number : ℕ → Walked
+    by-number n = elim n as (λ _. Walked) [ zero ↦ by-touch (touches x₀ dx split l) | suc k ↦ still (Refused (suc k)) ]
 
-  pub safe-refused : (n : ℕ) → safeRefusal x₀ dx split l ≡ n → (n ≡ 0 → ⊥)
-      → safeWalk x₀ dx split l ≡ still (Refused n)
-  unfolding safeWalk
-  safe-refused zero e h = absurd (h refl)
-  safe-refused (suc n) e h = ap by-number e
+    pub safe-refused : (n : ℕ) → safeRefusal x₀ dx split l ≡ n → (n ≡ 0 → ⊥)
+        → safeWalk x₀ dx split l allowed ≡ still (Refused n)
+    unfolding safeWalk
+    safe-refused zero e h = absurd (h refl)
+    safe-refused (suc n) e h = ap by-number e
 
-  pub safe-touches : safeRefusal x₀ dx split l ≡ 0 → touches x₀ dx split l ≡ true
-      → safeWalk x₀ dx split l ≡ still (Touching zero32)
-  unfolding safeWalk
-  safe-touches e t = ap by-number e ∙ ap by-touch t
+    pub safe-touches : safeRefusal x₀ dx split l ≡ 0 → touches x₀ dx split l ≡ true
+        → safeWalk x₀ dx split l allowed ≡ still (Touching zero32)
+    unfolding safeWalk
+    safe-touches e t = ap by-number e ∙ ap by-touch t
 
-  pub safe-walks : safeRefusal x₀ dx split l ≡ 0 → touches x₀ dx split l ≡ false → safeWalk x₀ dx split l ≡ walked
-  unfolding safeWalk
-  safe-walks e t = ap by-number e ∙ ap by-touch t
+    pub safe-walks : safeRefusal x₀ dx split l ≡ 0 → touches x₀ dx split l ≡ false
+        → safeWalk x₀ dx split l allowed ≡ walked
+    unfolding safeWalk
+    safe-walks e t = ap by-number e ∙ ap by-touch t

@@ -7,26 +7,26 @@ use Prim.Native.Nat.{_-_}
 use lib.Dec.{T, not-T}
 use lib.Ieee.Bits.{is-false}
 use lib.Ieee.{Float, lt, le}
-use Rattle.number.specs.Number.{_⊖_, _⊗_, _⊘_, zero32, largest32, smaller, larger}
+use Rattle.number.specs.Number.{_⊗_, zero32, largest32, smaller}
 use Rattle.number.proofs.Transitive.{lt-trans, lt-self}
-use Rattle.geometry.specs.Geometry.{dot, Cross}
+use Rattle.geometry.specs.Geometry.{Cross}
 use Rattle.ccd3.specs.declared.Aim.{Aim}
-use Rattle.ccd3.specs.Step.{gap, rel, projected, lessened, leastOver}
+use Rattle.ccd3.specs.Step.{timeToPark, leftOf, speedOf, stops, leastOver}
 use Rattle.ccd3.specs.Tables.{timeLeft, entry, leastIn}
 
 -- ---- one pair, as the loop meets it
-module _ (reach time : List (List Float)) (dip : Float) where
-  pub none-left : (least : Float) → leastIn reach time dip [] least ≡ least
+module _ (left time : List (List Float)) (dip : Float) where
+  pub none-left : (least : Float) → leastIn left time dip [] least ≡ least
   unfolding leastIn
   none-left least = refl
 
   module _ (p : Cross) (ps : List Cross) (least : Float) where
-    pub pair-stops : le (entry reach p) dip ≡ true → leastIn reach time dip (p ∷ ps) least ≡ zero32
+    pub pair-stops : le (entry left p) dip ≡ true → leastIn left time dip (p ∷ ps) least ≡ zero32
     unfolding leastIn
     pair-stops e = rw e
 
-    pub pair-passes : (least′ : Float) → least′ ≡ smaller least (entry time p) → le (entry reach p) dip ≡ false
-        → leastIn reach time dip (p ∷ ps) least ≡ leastIn reach time dip ps least′
+    pub pair-passes : (least′ : Float) → least′ ≡ smaller least (entry time p) → le (entry left p) dip ≡ false
+        → leastIn left time dip (p ∷ ps) least ≡ leastIn left time dip ps least′
     unfolding leastIn
     pair-passes least′ l e = rw (e, l)
 
@@ -48,44 +48,44 @@ unfolding smaller
 with-largest least h = rw (is-false (lt largest32 least) (not-T (lt largest32 least) h))
 
 module _ (x dx : List (List Float)) (a : Aim) where
-  abbrev reachOf : Cross → Float
-  reachOf p = projected a (gap x p) (rel dx p)
+  -- the least time with that of one pair more
+  abbrev lessened : Float → Float → Float → Float
+  lessened least left speed = cond (lt zero32 speed) (smaller least (timeToPark a left speed)) least
 
-  abbrev speedOf : Cross → Float
-  speedOf p = dot (a .w) (rel dx p)
-
-  as-smaller : (least r s : Float) → Under least → smaller least (timeLeft a r s) ≡ lessened a least r s
-  unfolding timeLeft lessened
-  as-smaller least r s h = go (lt zero32 s)
+  as-smaller : (least left speed : Float) → Under least
+      → smaller least (timeLeft a left speed) ≡ lessened least left speed
+  unfolding timeLeft
+  as-smaller least left speed h = go (lt zero32 speed)
     where
       go : (b : Bool)
-          → smaller least (cond b (larger (r ⊖ a .park ⊗ a .norm) zero32 ⊘ s) largest32)
-          ≡ cond b (smaller least (larger (r ⊖ a .park ⊗ a .norm) zero32 ⊘ s)) least
+          → smaller least (cond b (timeToPark a left speed) largest32)
+          ≡ cond b (smaller least (timeToPark a left speed)) least
       go true = refl
       go false = with-largest least h
 
-  module _ (reach time : List (List Float)) where
+  module _ (left time : List (List Float)) where
     -- the tables have what each of the pairs leaves
     unfoldable pub Tabled : List Cross → Type 0
     Tabled [] = Unit
     Tabled (p ∷ ps) =
-        (entry reach p ≡ reachOf p) × (entry time p ≡ timeLeft a (entry reach p) (speedOf p)) × Tabled ps
+        (entry left p ≡ leftOf a x dx p) × (entry time p ≡ timeLeft a (entry left p) (speedOf a x dx p)) × Tabled ps
+
+    abbrev D : Float
+    D = a .dip ⊗ a .norm
 
     alike : (ps : List Cross) → Tabled ps → (least : Float) → Under least
-        → leastIn reach time (a .dip ⊗ a .norm) ps least ≡ leastOver a x dx ps least
+        → leastIn left time D ps least ≡ leastOver a x dx ps least
     unfolding leastIn leastOver Tabled
     alike [] h least u = refl
     alike (p ∷ ps) h least u =
-        let step : smaller least (entry time p) ≡ lessened a least (reachOf p) (speedOf p) =
+        let step : smaller least (entry time p) ≡ lessened least (leftOf a x dx p) (speedOf a x dx p) =
         ap (smaller least) (h .1)
-        ∙ as-smaller least (entry reach p) (speedOf p) u
-        ∙ ap (λ (r : Float). lessened a least r (speedOf p)) (h .0) in
-        ap (λ (r : Float). cond (le r (a .dip ⊗ a .norm)) zero32
-        (leastIn reach time (a .dip ⊗ a .norm) ps (smaller least (entry time p)))) (h .0)
-        ∙ ap (cond (le (reachOf p) (a .dip ⊗ a .norm)) zero32)
+        ∙ as-smaller least (entry left p) (speedOf a x dx p) u
+        ∙ ap (λ (r : Float). lessened least r (speedOf a x dx p)) (h .0) in
+        ap (λ (r : Float). cond (le r D) zero32 (leastIn left time D ps (smaller least (entry time p)))) (h .0)
+        ∙ ap (cond (stops a x dx p) zero32)
         (alike ps (h .2) (smaller least (entry time p)) (under-smaller least (entry time p) u)
         ∙ ap (leastOver a x dx ps) step)
 
-    pub tables-give : (ps : List Cross) → Tabled ps
-        → leastIn reach time (a .dip ⊗ a .norm) ps largest32 ≡ leastOver a x dx ps largest32
+    pub tables-give : (ps : List Cross) → Tabled ps → leastIn left time D ps largest32 ≡ leastOver a x dx ps largest32
     tables-give ps h = alike ps h largest32 (lt-self largest32)

@@ -1,79 +1,64 @@
--- A loop that follows `walk`, turn by turn: what a walk from the present visit tells after the probes made is what the
--- whole walk tells (specs/Walk.antt), of any number of probes allowed. Assumes nothing.
+-- A loop that follows `walk`, turn by turn, over the law for loops with a cap: what a walk from the present visit tells
+-- after the probes made (specs/Walk.antt), of any threshold. Assumes nothing.
 use mathlib.Core.Path.{_≡_, sym, ap, _∙_}
 use mathlib.Core.Bool.{Bool, true, false}
 use mathlib.Core.List.{List}
-use Prim.Native.Nat.{ℕ, suc, _+_, _-_, _≤_}
+use Prim.Native.Nat.{ℕ, suc, _+_}
 use native.Mathlib.Omega.{arith}
 use lib.ListN.{length}
 use lib.Ieee.{Float, lt}
 use Rattle.admission.specs.declared.Limits.{Limits}
-use Rattle.ccd3.specs.declared.SafeTime.{SafeTime}
-use Rattle.ccd3.specs.declared.Answer.the-variants.{Contact, Clear, Budget}
+use Rattle.ccd3.specs.declared.Ending.{Ending}
+use Rattle.ccd3.specs.declared.Counted.{Counted}
 use Rattle.ccd3.specs.Step.{Visit, next}
-use Rattle.ccd3.specs.Walk.{Walked, visit, above, closing, written, met, walk, told}
+use Rattle.ccd3.specs.Walk.{Walked, visit, above, cleared, spent, met, ends, probing, walk, counted}
 use Rattle.ccd3.proofs.WalkLaws.{walk-clears, walk-spends, walk-meets, walk-steps}
 
--- a probe more is one more of the probes made
-counted : (n k : ℕ) → n + 1 + k ≡ n + suc k
-counted n k = omega arith
+-- a walk that ends has made the probes made; a probe more is one more of them
+pub counted-ends : (n : ℕ) (e : Ending) → counted n (ends e) ≡ record { ending = e; probes = n }
+counted-ends n e =
+    let same : n + 0 ≡ n = omega arith in
+    λ i. record { ending = e; probes = same i }
 
-none-more : (n : ℕ) → n ≡ n + 0
-none-more n = omega arith
+counted-probing : (n : ℕ) (t : Float) (w : Walked) → counted n (probing t w) ≡ counted (n + 1) w
+counted-probing n t w =
+    let same : n + suc (length (w .probed)) ≡ n + 1 + length (w .probed) = omega arith in
+    λ i. record { ending = w .ending; probes = same i }
 
-one-more : (n : ℕ) → n + 1 ≡ n + suc 0
-one-more n = omega arith
+module _ (x₀ dx : List (List Float)) (split : ℕ) (threshold : Float) (l : Limits) where
+  -- where a walk stands: how many probes were made, and the visit
+  abbrev pub walkFrom : ℕ → ℕ × Visit → Counted
+  walkFrom left s = counted (s .0) (walk x₀ dx split threshold l left (s .1))
 
-module _ (x₀ dx : List (List Float)) (split : ℕ) (threshold : Float) (l : Limits) (allowed n : ℕ) (v : Visit)
-    (end : SafeTime) (small : n ≤ allowed) (rest : told n (walk x₀ dx split threshold l (allowed - n) v) ≡ end)
-    (t : Float) (is : t ≡ next dx split l v) where
-  abbrev W : ℕ → Visit → Walked
-  W = walk x₀ dx split threshold l
+  module _ (n : ℕ) (v : Visit) (t : Float) (is : t ≡ next dx split l v) where
+    limit : (b : Bool) → lt (l .«max_t») t ≡ b → lt (l .«max_t») (next dx split l v) ≡ b
+    limit b p = ap (lt (l .«max_t»)) (sym is) ∙ p
 
-  limit : (b : Bool) → lt (l .«max_t») t ≡ b → lt (l .«max_t») (next dx split l v) ≡ b
-  limit b p = ap (lt (l .«max_t»)) (sym is) ∙ p
+    pub clears : (left : ℕ) → lt (l .«max_t») t ≡ true
+        → walkFrom left (n, v) ≡ record { ending = cleared l v; probes = n }
+    clears left p =
+        ap (counted n) (walk-clears x₀ dx split threshold l left v (limit true p)) ∙ counted-ends n (cleared l v)
 
-  pub clears : (m : Float) → m ≡ written (l .«max_t») → lt (l .«max_t») t ≡ true
-      → record { answer = Clear m; probes = n; halvings = 0 } ≡ end
-  clears m e p =
-      (λ i. record { answer = Clear (e i); probes = none-more n i; halvings = 0 })
-      ∙ ap (told n) (sym (walk-clears x₀ dx split threshold l (allowed - n) v (limit true p))) ∙ rest
+    module _ (p : lt (l .«max_t») t ≡ false) where
+      pub spends : walkFrom 0 (n, v) ≡ record { ending = spent v; probes = n }
+      spends = ap (counted n) (walk-spends x₀ dx split threshold l v (limit false p)) ∙ counted-ends n (spent v)
 
-  pub spends : n ≡ allowed → lt (l .«max_t») t ≡ false
-      → record { answer = Budget (v .time); probes = n; halvings = 0 } ≡ end
-  spends e p =
-      let none : 0 ≡ allowed - n = omega arith in
-      (λ i. record { answer = Budget (v .time); probes = none-more n i; halvings = 0 })
-      ∙ ap (told n) (sym (walk-spends x₀ dx split threshold l v (limit false p)))
-      ∙ ap (λ (k : ℕ). told n (W k v)) none ∙ rest
+      apart : (b : Bool) → above x₀ dx split threshold t ≡ b
+          → above x₀ dx split threshold (next dx split l v) ≡ b
+      apart b a = ap (above x₀ dx split threshold) (sym is) ∙ a
 
-  module _ (more : n ≡ allowed → ⊥) (p : lt (l .«max_t») t ≡ false) where
-    fuel : suc (allowed - (n + 1)) ≡ allowed - n
-    fuel = omega (arith, more)
+      pub meets : above x₀ dx split threshold t ≡ false → (left : ℕ)
+          → walkFrom (suc left) (n, v) ≡ record { ending = met x₀ dx split threshold (v .time) t; probes = n + 1 }
+      meets a left =
+          ap (counted n) (walk-meets x₀ dx split threshold l left v (limit false p) (apart false a))
+          ∙ counted-probing n (next dx split l v) (ends (met x₀ dx split threshold (v .time) (next dx split l v)))
+          ∙ counted-ends (n + 1) (met x₀ dx split threshold (v .time) (next dx split l v))
+          ∙ sym (ap (λ (u : Float). record { ending = met x₀ dx split threshold (v .time) u; probes = n + 1 }) is)
 
-    apart : (b : Bool) → above x₀ dx split threshold t ≡ b
-        → above x₀ dx split threshold (next dx split l v) ≡ b
-    apart b a = ap (above x₀ dx split threshold) (sym is) ∙ a
-
-    pub meets : (lower : Float) (count : ℕ) → above x₀ dx split threshold t ≡ false
-        → lower ≡ closing x₀ dx split threshold (v .time) t .lower
-        → count ≡ closing x₀ dx split threshold (v .time) t .count
-        → record { answer = Contact lower; probes = n + 1; halvings = count } ≡ end
-    meets lower count a e f =
-        (λ i. record { answer = Contact (e i); probes = one-more n i; halvings = f i })
-        ∙ ap (λ (z : Float). told n (met x₀ dx split threshold (v .time) z)) is
-        ∙ ap (told n) (sym (walk-meets x₀ dx split threshold l (allowed - (n + 1)) v (limit false p) (apart false a)))
-        ∙ ap (λ (k : ℕ). told n (W k v)) fuel ∙ rest
-
-    pub steps : above x₀ dx split threshold t ≡ true
-        → told (n + 1) (W (allowed - (n + 1)) (visit x₀ dx split t)) ≡ end
-    steps a =
-        let w = W (allowed - (n + 1)) (visit x₀ dx split (next dx split l v)) in
-        ap (λ (z : Float). told (n + 1) (W (allowed - (n + 1)) (visit x₀ dx split z))) is
-        ∙ (λ i. record {
-          answer = w .answer;
-          probes = counted n (length (w .probed)) i;
-          halvings = w .halvings;
-        })
-        ∙ ap (told n) (sym (walk-steps x₀ dx split threshold l (allowed - (n + 1)) v (limit false p) (apart true a)))
-        ∙ ap (λ (k : ℕ). told n (W k v)) fuel ∙ rest
+      pub steps : above x₀ dx split threshold t ≡ true → (left : ℕ)
+          → walkFrom (suc left) (n, v) ≡ walkFrom left (n + 1, visit x₀ dx split t)
+      steps a left =
+          ap (counted n) (walk-steps x₀ dx split threshold l left v (limit false p) (apart true a))
+          ∙ counted-probing n (next dx split l v)
+          (walk x₀ dx split threshold l left (visit x₀ dx split (next dx split l v)))
+          ∙ sym (ap (λ (u : Float). walkFrom left (n + 1, visit x₀ dx split u)) is)

@@ -4,7 +4,7 @@ use Prim.Native.Nat.{ℕ, zero, suc, _≤_}
 use mathlib.Core.Bool.{Bool, true, false, cond, _&&_, _||_, not}
 use mathlib.Core.List.{List, [], _∷_}
 use lib.Ieee.{Float, lt, le, eq, isNan}
-use Rattle.number.specs.Number.{_⊗_, zero32, nextUp}
+use Rattle.number.specs.Number.{_⊗_, zero32, nextUp, written}
 use Rattle.distance.specs.Distance.{nearestOf}
 use Rattle.admission.specs.declared.Limits.{Limits}
 use Rattle.admission.specs.Admission.{walkRefusal}
@@ -12,7 +12,7 @@ use Rattle.ccd3.specs.declared.Answer.{Answer}
 use Rattle.ccd3.specs.declared.Answer.the-variants.{Touching, Refused}
 use Rattle.ccd3.specs.declared.SafeTime.{SafeTime}
 use Rattle.ccd3.specs.Step.{park}
-use Rattle.ccd3.specs.Walk.{Walked, unbracketed, ends, start, walk, counted, told, refusalOf, kindOf, timeOf, written, squaredAt, above}
+use Rattle.ccd3.specs.Walk.{Walked, unbracketed, ends, start, walk, counted, told, refusalOf, kindOf, timeOf, squaredAt, above}
 use mathlib.Core.Path.{_≡_}
 use lib.Dec.{T}
 use lib.ListN.{length}

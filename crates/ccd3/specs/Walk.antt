@@ -3,7 +3,7 @@
 -- Definitions only.
 use Prim.Native.Nat.{ℕ, zero, suc, _+_}
 use lib.Ieee.{Float, lt}
-use Rattle.number.specs.Number.{zero32, larger}
+use Rattle.number.specs.Number.{zero32, written}
 use Rattle.ccd3.specs.declared.Answer.{Answer}
 use Rattle.ccd3.specs.declared.Answer.the-variants.{Touching, Contact, Clear, Budget, Refused}
 use mathlib.Core.Bool.{Bool, true, false}
@@ -44,10 +44,6 @@ timeOf (Budget t) = t
 timeOf (Refused n) = zero32
 
 -- ---- the walk
--- a time as it is answered: a zero with the sign plus
-abbrev pub written : Float → Float
-written t = larger zero32 t
-
 module _ (x₀ dx : List (List Float)) (split : ℕ) where
   -- the start is where the points are handed over
   abbrev pub start : Visit

@@ -85,8 +85,9 @@ pub fn maximum_safe_time_accurate(
 {
     let c = safe_walk(x0, dx, split, limits, ALLOWANCE);
     let ending = c.ending;
+    let answer = ending.answer;
     SafeTime {
-        answer: ending.answer,
+        answer,
         probes: c.probes,
         halvings: ending.halvings,
     }

@@ -12,7 +12,7 @@ use admission::Limits;
 use distance::candidate::Nearest;
 use distance::nearest::nearest;
 use geometry::mat3x4_array_of_cols::add_scaled;
-use number::order::larger;
+use number::order::written;
 
 // An ending with no bracket, at a visit of this time.
 pub(crate) fn unbracketed(answer: Answer, time: f32) -> Ending
@@ -71,7 +71,7 @@ pub(crate) fn walk(
     loop {
         let next = next_time(time, x, near, dx, split, l);
         if l.max_t < next {
-            let clear = unbracketed(Answer::Clear(larger(0.0, l.max_t)), time);
+            let clear = unbracketed(Answer::Clear(written(l.max_t)), time);
             return Counted {
                 ending: clear,
                 probes,

@@ -1,9 +1,9 @@
--- `larger` (specs/Number.antt) answers one of its arguments, so it keeps whatever holds of both: a bound, a sign, being
--- no NaN. `clamp` to 0..1 lies there. Assumes nothing.
+-- `smaller` and `larger` (specs/Number.antt) answer one of their arguments, so they keep whatever holds of both: a bound,
+-- a sign, being no NaN. `clamp` to 0..1 lies there. Assumes nothing.
 use mathlib.Core.Bool.{Bool, true, false, not, cond}
 use lib.Dec.{T}
 use lib.Ieee.{Float, lt, le, isNan, ofBits}
-use Rattle.number.specs.Number.{zero32, one32, larger, clamp}
+use Rattle.number.specs.Number.{zero32, one32, smaller, larger, clamp}
 use Rattle.number.proofs.Comparing.{not-lt-le}
 
 -- what holds of both holds of the one chosen
@@ -14,6 +14,10 @@ pick P false x y p q = q
 pub larger-keeps : (P : Float → Type 0) (a b : Float) → P a → P b → P (larger a b)
 unfolding larger
 larger-keeps P a b p q = pick P (lt a b) b a q p
+
+pub smaller-keeps : (P : Float → Type 0) (a b : Float) → P a → P b → P (smaller a b)
+unfolding smaller
+smaller-keeps P a b p q = pick P (lt b a) b a q p
 
 -- ---- clamped to 0..1
 zero-in : T (le zero32 zero32) × T (le zero32 one32)

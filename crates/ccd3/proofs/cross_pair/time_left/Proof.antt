@@ -2,6 +2,7 @@
 use borrow.Author.Needs.{needs}
 use mathlib.Core.Path.{_≡_, ap, _∙_}
 use Rattle.geometry.specs.Geometry.{dot, minus}
+use Rattle.ccd3.specs.Step.{timeToPark}
 use Rattle.ccd3.specs.Tables.{timeLeft}
 use Rattle.ccd3.proofs.cross_pair.time_left.Statement.{statement}
 use Rattle.ccd3.proofs.cross_pair.time_left.Tie as tie
@@ -13,13 +14,13 @@ speed : (c : tie.After-dot)
 speed c = c .dot .ensures ∙ ap (dot (c .before .before .before .args .a .w)) (c .before .sub .ensures)
 
 returns : tie.Need-returns
-unfolding timeLeft
+unfolding timeToPark timeLeft
 returns c =
     let test = c .before .before in
     rw (c .larger .ensures, ← speed (test .before), test .if1 .taken)
 
 returns-2 : tie.Need-returns-2
-unfolding timeLeft
+unfolding timeToPark timeLeft
 returns-2 c = rw (← speed (c .before), c .if1 .left)
 
 pub time-left-spec : {M : Type 1} → statement M

@@ -21,11 +21,11 @@ Left split dip reach time ps least =
     leastIn reach time dip ps least ≡ leastIn reach time dip (crossPairs split) largest32
 
 abbrev Inv-loop : tie.InvT-loop
-Inv-loop split dip reach time step₀ i reaches times j₀ step j =
+Inv-loop split dip reach time step₀ i lefts times j₀ step j =
     (i < split) × (split ≤ j) × Left split dip reach time (rest split i j) step
 
 abbrev μ-loop : tie.MeasureT-loop
-μ-loop split dip reach time step₀ i reaches times j₀ step j = 4 - j
+μ-loop split dip reach time step₀ i lefts times j₀ step j = 4 - j
 
 abbrev Inv-sides : tie.InvT-sides
 Inv-sides split dip reach time step₀ i₀ step i = Left split dip reach time (rows split i) step
@@ -47,11 +47,11 @@ sides-holds : tie.Need-sides-holds Inv-loop μ-loop Inv-sides μ-sides
 unfolding crossPairs
 sides-holds c = rw sub-zero
 
-mul-reaches : tie.Need-mul-reaches Inv-loop μ-loop Inv-sides μ-sides
-mul-reaches c = omega arith
+mul-lefts : tie.Need-mul-lefts Inv-loop μ-loop Inv-sides μ-sides
+mul-lefts c = omega arith
 
-array-copy-out-reaches : tie.Need-array-copy-out-reaches Inv-loop μ-loop Inv-sides μ-sides
-array-copy-out-reaches c = omega arith
+array-copy-out-lefts : tie.Need-array-copy-out-lefts Inv-loop μ-loop Inv-sides μ-sides
+array-copy-out-lefts c = omega arith
 
 mul-times : tie.Need-mul-times Inv-loop μ-loop Inv-sides μ-sides
 mul-times c = omega arith
@@ -149,6 +149,6 @@ returns-2 c =
 pub over-sides-spec : {M : Type 1} → statement M
 over-sides-spec =
     tie.close
-    (tie.spec Inv-loop μ-loop Inv-sides μ-sides sides-holds mul-reaches array-copy-out-reaches mul-times
+    (tie.spec Inv-loop μ-loop Inv-sides μ-sides sides-holds mul-lefts array-copy-out-lefts mul-times
     array-copy-out-times loop-holds mul-if1 array-read-if1 mul-smaller array-read-smaller smaller-requires add-j
     loop-less loop-again add-i sides-less sides-again returns returns-2)

@@ -2,22 +2,21 @@
 use mathlib.Core.Path.{_≡_, refl, sym, ap, _∙_}
 use mathlib.Core.Logic.{inl, inr, ⊎-elim}
 use mathlib.Core.Bool.{Bool, true, false}
-use Prim.Native.Nat.{ℕ, _-_, _≤_}
+use Prim.Native.Nat.{ℕ, _-_}
 use native.Mathlib.Omega.{arith}
 use borrow.Author.Needs.{needs}
-use lib.Dec.{lit≤}
 use lib.Ieee.{Float, eq}
 use Rattle.number.specs.Halving.{Halved, halve, midpoint, window}
+use Rattle.number.proofs.Capped.{Capped, capped-start, capped-spent, capped-ends, capped-goes-on}
 use Rattle.ccd3.specs.Walk.{above, closing}
-use Rattle.ccd3.proofs.HalvingLoop.{Moved, halve-none, new-ends, arrives, goes-on}
+use Rattle.ccd3.proofs.HalvingLoop.{halveFrom, Moved, halve-none, new-ends, halve-arrives, halve-goes-on}
 use Rattle.ccd3.proofs.halving.close_in.Statement.{statement}
 use Rattle.ccd3.proofs.halving.close_in.Tie as tie
 
--- what is left of the halving leads to the whole's end
+-- what is left of the halving leads to the whole's end, and the window is that of the ends
 pub record Stage (p : Float → Bool) (from to lower upper window′ : Float) (count : ℕ) : Type 0 where
-  pub small : count ≤ 255
   pub wide : window′ ≡ window lower upper
-  pub left : halve p (255 - count) count lower upper ≡ halve p 255 0 from to
+  pub left : Capped (halveFrom p) 255 (halve p 255 0 from to) count (count, lower, upper)
 
 abbrev Inv-loop : tie.InvT-loop
 Inv-loop x0 dx split threshold from to lower₀ upper₀ window₀ count₀ lower upper window count =
@@ -27,7 +26,14 @@ abbrev μ-loop : tie.MeasureT-loop
 μ-loop x0 dx split threshold from to lower₀ upper₀ window₀ count₀ lower upper window count = 255 - count
 
 loop-holds : tie.Need-loop-holds Inv-loop μ-loop
-loop-holds c = record { small = lit≤ tt; wide = refl; left = refl }
+loop-holds c = record { wide = refl; left = capped-start (halveFrom _) 255 (0, c .args .from, c .args .to) }
+
+-- the three values of an end
+shown : (lower upper : Float) (count : ℕ) (stopped : Bool) (end : Halved)
+    → record { lower = lower; upper = upper; count = count; stopped = stopped } ≡ end
+    → (lower ≡ end .lower) × ((upper ≡ end .upper) × (count ≡ end .count))
+shown lower upper count stopped end e =
+    (ap (λ (h : Halved). h .lower) e, (ap (λ (h : Halved). h .upper) e, ap (λ (h : Halved). h .count) e))
 
 module _ (c : tie.Joined1 Inv-loop μ-loop) where
   abbrev loop : tie.At-loop Inv-loop μ-loop
@@ -59,33 +65,33 @@ unfolding closing
 returns c =
     let j = c .before in
     let l = loop j .loop in
-    let e = arrives (test j) (l .count) (l .lower) (l .upper) (j .if1 .lower) (j .if1 .upper) _
-    (j .before .before .loop-test .taken) (l .inv .left) (moved j) (as-kept j true (c .if2 .taken)) in
-    (ap (λ (h : Halved). h .lower) e, ap (λ (h : Halved). h .count) e)
+    shown _ _ _ true _
+    (capped-ends (halveFrom (test j)) 255 _ (l .count) _ (l .inv .left) (j .before .before .loop-test .taken) _
+    (λ k. halve-arrives (test j) (l .count) (l .lower) (l .upper) (j .if1 .lower) (j .if1 .upper) (moved j) k
+    (as-kept j true (c .if2 .taken))))
 
 loop-again : tie.Need-loop-again Inv-loop μ-loop
 loop-again c =
     let j = c .before in
     let l = loop j .loop in
     record {
-      small = omega arith;
       wide = refl;
       left =
-          goes-on (test j) (l .count) (l .lower) (l .upper) (j .if1 .lower) (j .if1 .upper) _
-          (j .before .before .loop-test .taken) (l .inv .left) (moved j) (as-kept j false (c .if2 .left));
+          capped-goes-on (halveFrom (test j)) 255 _ (l .count) _ (l .inv .left) (j .before .before .loop-test .taken) _
+          (λ k. halve-goes-on (test j) (l .count) (l .lower) (l .upper) (j .if1 .lower) (j .if1 .upper) (moved j) k
+          (as-kept j false (c .if2 .left)));
     }
 
--- the fuel is used up
+-- no halving is left
 returns-2 : tie.Need-returns-2 Inv-loop μ-loop
 unfolding closing
 returns-2 c =
     let l = c .before .loop in
     let a = c .before .before .args in
     let p = above (a .x0) (a .dx) (a .split) (a .threshold) in
-    let n : 255 - l .count ≡ 0 = omega (arith, c .loop-test .left) in
-    let e = sym (halve-none p (l .count) (l .lower) (l .upper))
-    ∙ ap (λ (k : ℕ). halve p k (l .count) (l .lower) (l .upper)) (sym n) ∙ l .inv .left in
-    (ap (λ (h : Halved). h .lower) e, ap (λ (h : Halved). h .count) e)
+    shown _ _ _ false _
+    (sym (halve-none p (l .count) (l .lower) (l .upper))
+    ∙ capped-spent (halveFrom p) 255 _ (l .count) _ (l .inv .left) (λ m. omega (arith, c .loop-test .left)))
 
 pub close-in-spec : {M : Type 1} → statement M
 close-in-spec =

@@ -3,19 +3,18 @@ use mathlib.Core.Path.{_≡_, sym, ap, _∙_}
 use mathlib.Core.Bool.{Bool, true, false, cond, _&&_, _||_}
 use native.Mathlib.Omega.{arith}
 use borrow.Author.Needs.{needs}
-use lib.Ieee.{lt, le, eq}
+use lib.Ieee.{Float, lt, le, eq}
 use Rattle.number.specs.Number.{zero32}
 use Rattle.distance.specs.declared.candidate.Nearest.{Nearest}
-use Rattle.ccd3.specs.Walk.{walk, told}
+use Rattle.ccd3.specs.Walk.{walk, counted}
 use Rattle.ccd3.specs.SafeTime.{
-  allowance,
+  threshold,
   squaredPark,
   squaredOffset,
   firstSquared,
   touches,
   between,
   safeRefusal,
-  safeTimeOf,
 }
 use Rattle.ccd3.proofs.StartLaws.{number-admitted, safe-refused, safe-touches, safe-walks}
 use Rattle.ccd3.proofs.safe_time.admitted.Statement.{statement}
@@ -48,41 +47,41 @@ module _ (c : tie.After-nearest) where
   numbered b e = number-admitted _ _ _ _ (c .before .pre) ∙ ap (λ (t : Bool). cond t 3 0) (as-between b e)
 
 returns : tie.Need-returns
-unfolding safeTimeOf
 returns c =
     let n = c .before .before .before .before .before .before in
     let a = n .before .args in
     c .still .ensures
-    ∙ ap (told 0)
-    (sym (safe-refused (a .x0) (a .dx) (a .split) (a .l) 3 (numbered n true (c .before .if1 .taken))
+    ∙ ap (counted 0)
+    (sym (safe-refused (a .x0) (a .dx) (a .split) (a .l) (a .allowance) 3 (numbered n true (c .before .if1 .taken))
     (λ k. omega arith)))
 
 returns-2 : tie.Need-returns-2
-unfolding safeTimeOf
 returns-2 c =
     let e = c .before .before .before .before in
     let n = e .before .before .before .before .before in
     let a = n .before .args in
     c .still2 .ensures
-    ∙ ap (told 0)
-    (sym (safe-touches (a .x0) (a .dx) (a .split) (a .l) (numbered n false (e .if1 .left))
+    ∙ ap (counted 0)
+    (sym (safe-touches (a .x0) (a .dx) (a .split) (a .l) (a .allowance) (numbered n false (e .if1 .left))
     (as-touches n true (c .before .if2 .taken))))
 
 returns-3 : tie.Need-returns-3
-unfolding safeTimeOf
 returns-3 c =
-    let e = c .before .before .before .before in
+    let u = c .before .before in
+    let e = u .before .before .before in
     let n = e .before .before .before .before .before in
     let a = n .before .args in
     c .walk .ensures
-    ∙ ap (λ (near : Nearest). told 0 (walk (a .x0) (a .dx) (a .split) (squaredPark (a .l)) (a .l) allowance
+    ∙ ap (λ (t : Float). counted 0 (walk (a .x0) (a .dx) (a .split) t (a .l) (a .allowance)
+    (record { time = zero32; points = a .x0; near = n .nearest .result }))) (c .before .threshold .ensures)
+    ∙ ap (λ (near : Nearest). counted 0 (walk (a .x0) (a .dx) (a .split) (threshold (a .l)) (a .l) (a .allowance)
     (record { time = zero32; points = a .x0; near = near }))) (n .nearest .ensures)
-    ∙ ap (told 0)
-    (sym (safe-walks (a .x0) (a .dx) (a .split) (a .l) (numbered n false (e .if1 .left))
-    (as-touches n false (c .before .if2 .left))))
+    ∙ ap (counted 0)
+    (sym (safe-walks (a .x0) (a .dx) (a .split) (a .l) (a .allowance) (numbered n false (e .if1 .left))
+    (as-touches n false (u .if2 .left))))
 
 pub admitted-spec : {M : Type 1} → statement M
 admitted-spec =
     tie.close
     (tie.spec (λ c κs. search needs) (λ c κs. search needs) returns (λ c κs. search needs) returns-2
-    (λ c κs. search needs) returns-3)
+    (λ c κs. search needs) (λ c κs. search needs) returns-3)

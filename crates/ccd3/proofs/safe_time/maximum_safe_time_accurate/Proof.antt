@@ -1,6 +1,6 @@
--- `ccd3::safe_time::maximum_safe_time_accurate` meets its contract: the answer of the definition, by either way
--- through its test, and its promises. Assumes nothing.
-use mathlib.Core.Path.{_≡_, sym, ap, _∙_, subst}
+-- `ccd3::safe_time::maximum_safe_time_accurate` meets its contract: what the definition's walk tells, and its promises.
+-- Assumes nothing.
+use mathlib.Core.Path.{_≡_, sym, ap, subst}
 use borrow.Author.Needs.{needs}
 use lib.Dec.{T}
 use denote.Struct.Laws.{owed}
@@ -10,7 +10,6 @@ use Rattle.ccd3.specs.declared.SafeTime.{SafeTime}
 use Rattle.ccd3.specs.Walk.{told}
 use Rattle.ccd3.specs.SafeTime.{safeTimeOf, Promises}
 use Rattle.ccd3.proofs.Handed.{points-fit}
-use Rattle.ccd3.proofs.StartLaws.{number-admission, safe-refused}
 use Rattle.ccd3.proofs.Admitted.{Fitting}
 use Rattle.ccd3.proofs.Promises.{safe-time-promised}
 use Rattle.ccd3.proofs.safe_time.maximum_safe_time_accurate.Statement.{statement}
@@ -37,24 +36,8 @@ with-promises c r e =
     (e, subst (Promises (a .x0) (a .dx) (a .split) (a .limits)) (sym e) (safe-time-promised _ _ _ _ (fitting c)))
 
 returns : tie.Need-returns
-returns c = with-promises (c .before .before .before) (c .admitted .result) (c .admitted .ensures)
-
-returns-2 : tie.Need-returns-2
 unfolding safeTimeOf
-returns-2 c =
-    let n = c .before .before in
-    let a = n .before .args in
-    let other = c .before .if1 .left in
-    let number = number-admission (a .x0) (a .dx) (a .split) (a .limits) (n .admit-walk .result)
-    (sym (n .admit-walk .ensures)) other in
-    with-promises (n .before) (c .still .result)
-    (c .still .ensures ∙ ap (told 0) (sym (safe-refused (a .x0) (a .dx) (a .split) (a .limits) _ number other)))
-
--- what is admitted
-admitted-requires : tie.Need-admitted-requires
-admitted-requires c κs = sym (c .before .admit-walk .ensures) ∙ c .if1 .taken
+returns c = with-promises (c .before .before) _ (ap told (c .before .safe-walk .ensures))
 
 pub maximum-safe-time-accurate-spec : {M : Type 1} → statement M
-maximum-safe-time-accurate-spec =
-    tie.close
-    (tie.spec (λ c κs. search needs) admitted-requires (λ c κs. search needs) returns returns-2)
+maximum-safe-time-accurate-spec = tie.close (tie.spec (λ c κs. search needs) returns)

@@ -4,7 +4,7 @@ use Rattle.ccd3.proofs.step.next_time.Statement.{statement}
 use Rattle.ccd3.proofs.step.next_time.Tie as tie
 
 returns : tie.Need-returns
-returns c = rw (c .step .ensures)
+returns c = rw (c .step-length .ensures)
 
 pub next-time-spec : {M : Type 1} → statement M
 next-time-spec = tie.close (tie.spec (λ c κs. search needs) returns)

@@ -1,115 +1,131 @@
 -- `ccd3::walk::walk` meets its contract: its loop follows the definition's walk. Assumes nothing.
-use mathlib.Core.Path.{_≡_, refl, sym, ap, _∙_}
+use mathlib.Core.Path.{_≡_, sym, ap, _∙_}
 use mathlib.Core.Bool.{Bool, true, false}
 use mathlib.Core.List.{List}
-use Prim.Native.Nat.{ℕ, _+_, _-_, _≤_}
+use Prim.Native.Nat.{ℕ, _+_, _-_, _<_}
 use native.Mathlib.Omega.{arith}
 use borrow.Author.Needs.{needs}
-use lib.Dec.{lit≤}
 use lib.Ieee.{Float, lt}
 use Rattle.number.specs.Number.{zero32}
+use Rattle.number.proofs.Capped.{Capped, capped-start, capped-spent, capped-ends, capped-goes-on}
 use Rattle.distance.specs.Distance.{nearestOf}
 use Rattle.distance.specs.declared.candidate.Nearest.{Nearest}
-use Rattle.admission.specs.declared.Limits.{Limits}
+use Rattle.ccd3.specs.declared.Ending.{Ending}
+use Rattle.ccd3.specs.declared.Counted.{Counted}
+use Rattle.ccd3.specs.declared.Answer.the-variants.{Clear}
 use Rattle.ccd3.specs.Step.{Visit}
-use Rattle.ccd3.specs.Walk.{squaredAt, above, visit, walk, told}
-use Rattle.ccd3.specs.SafeTime.{allowance}
-use Rattle.ccd3.proofs.WalkLoop.{clears, spends, meets, steps}
+use Rattle.ccd3.specs.Walk.{squaredAt, above, visit, unbracketed, counted, walk}
+use Rattle.ccd3.proofs.WalkLoop.{walkFrom, clears, spends, meets, steps}
 use Rattle.ccd3.proofs.walk.walk.Statement.{statement}
 use Rattle.ccd3.proofs.walk.walk.Tie as tie
 
--- what the walk from here tells, after the probes made, is what the whole walk tells
-pub record Stage (x₀ dx : List (List Float)) (split : ℕ) (threshold : Float) (l : Limits) (first : Nearest)
-    (v : Visit) (probes : ℕ) : Type 0 where
-  pub small : probes ≤ allowance
-  pub rest :
-      told probes (walk x₀ dx split threshold l (allowance - probes) v)
-      ≡ told 0 (walk x₀ dx split threshold l allowance (record { time = zero32; points = x₀; near = first }))
+-- the visit of a turn
+abbrev at : Float → List (List Float) → Nearest → Visit
+at time points near = record { time = time; points = points; near = near }
 
+-- what the walk from here tells, after the probes made, is what the whole walk tells
 abbrev Inv-loop : tie.InvT-loop
-Inv-loop x0 dx split threshold l time₀ x₀ near₀ probes₀ time x near probes =
-    Stage x0 dx split threshold l near₀ (record { time = time; points = x; near = near }) probes
+Inv-loop x0 dx split threshold l allowance time₀ x₀ near₀ probes₀ time x near probes =
+    Capped (walkFrom x0 dx split threshold l) allowance
+    (counted 0 (walk x0 dx split threshold l allowance (at zero32 x0 near₀))) probes (probes, at time x near)
 
 abbrev μ-loop : tie.MeasureT-loop
-μ-loop x0 dx split threshold l time₀ x₀ near₀ probes₀ time x near probes = allowance - probes
+μ-loop x0 dx split threshold l allowance time₀ x₀ near₀ probes₀ time x near probes = allowance - probes
 
 loop-holds : tie.Need-loop-holds Inv-loop μ-loop
-loop-holds c = record { small = lit≤ tt; rest = refl }
+loop-holds c =
+    let a = c .args in
+    capped-start (walkFrom (a .x0) (a .dx) (a .split) (a .threshold) (a .l)) (a .allowance)
+    (0, at zero32 (a .x0) (a .first))
 
--- the visit that a turn starts from
-abbrev here : tie.At-loop Inv-loop μ-loop → Visit
-here c = record { time = c .loop .time; points = c .loop .x; near = c .loop .near }
+-- an ending, as the code has it, with the probes made
+ended : (e d : Ending) (n : ℕ) (end : Counted) → e ≡ d → record { ending = d; probes = n } ≡ end
+    → record { ending = e; probes = n } ≡ end
+ended e d n end h k = ap (λ (z : Ending). record { ending = z; probes = n }) h ∙ k
+
+-- a turn, after its step
+module _ (n : tie.After-next-time Inv-loop μ-loop) where
+  abbrev call : tie.Start Inv-loop μ-loop
+  call = n .before .before
+
+  abbrev probes : ℕ
+  probes = n .before .loop .probes
+
+  abbrev run : ℕ → ℕ × Visit → Counted
+  run = walkFrom (call .args .x0) (call .args .dx) (call .args .split) (call .args .threshold) (call .args .l)
+
+  -- the visit that it starts from
+  abbrev here : Visit
+  here = at (n .before .loop .time) (n .before .loop .x) (n .before .loop .near)
+
+  abbrev time : Float
+  time = n .next-time .result
 
 returns : tie.Need-returns Inv-loop μ-loop
 returns c =
-    let n = c .before .before .before in
-    let s = n .before .loop in
-    let a = n .before .before .args in
-    clears (a .x0) (a .dx) (a .split) (a .threshold) (a .l) allowance (s .probes) (here (n .before)) _ (s .inv .small)
-    (s .inv .rest) (n .next-time .result) (n .next-time .ensures) (c .larger .result) (c .larger .ensures)
-    (c .before .if1 .taken)
+    let test = c .before .before in
+    let n = test .before .before in
+    let a = call n .args in
+    ended _ _ _ _
+    (c .unbracketed .ensures
+    ∙ ap (λ (m : Float). unbracketed (Clear m) (n .before .loop .time)) (c .before .written .ensures))
+    (sym (clears (a .x0) (a .dx) (a .split) (a .threshold) (a .l) (probes n) (here n) (time n) (n .next-time .ensures)
+    (a .allowance - probes n) (test .if1 .taken)) ∙ n .before .loop .inv .rest)
 
 returns-2 : tie.Need-returns-2 Inv-loop μ-loop
 returns-2 c =
-    let n = c .before .before .before in
-    let s = n .before .loop in
-    let a = n .before .before .args in
-    spends (a .x0) (a .dx) (a .split) (a .threshold) (a .l) allowance (s .probes) (here (n .before)) _ (s .inv .small)
-    (s .inv .rest) (n .next-time .result) (n .next-time .ensures) (c .if2 .taken) (c .before .if1 .left)
+    let test = c .before in
+    let n = test .before .before .before in
+    let a = call n .args in
+    ended _ _ _ _ (c .unbracketed2 .ensures)
+    (sym (spends (a .x0) (a .dx) (a .split) (a .threshold) (a .l) (probes n) (here n) (time n) (n .next-time .ensures)
+    (test .before .if1 .left))
+    ∙ capped-spent (run n) (a .allowance) _ (probes n) _ (n .before .loop .inv) (λ m. omega (arith, test .if2 .taken)))
 
 -- a probe is made at the new time
 module _ (c : tie.After-nearest Inv-loop μ-loop) where
   abbrev stepped : tie.After-next-time Inv-loop μ-loop
   stepped = c .before .before .before .before .before
 
-  abbrev time : Float
-  time = stepped .next-time .result
-
   at-time : c .nearest .result
-      ≡ visit (stepped .before .before .args .x0) (stepped .before .before .args .dx)
-      (stepped .before .before .args .split) time .near
-  at-time =
-      c .nearest .ensures
-      ∙ ap (nearestOf (stepped .before .before .args .split)) (c .before .add-scaled .ensures)
+      ≡ visit (call stepped .args .x0) (call stepped .args .dx) (call stepped .args .split) (time stepped) .near
+  at-time = c .nearest .ensures ∙ ap (nearestOf (call stepped .args .split)) (c .before .add-scaled .ensures)
 
-  apart : (b : Bool) → lt (stepped .before .before .args .threshold) (c .nearest .result .squared) ≡ b
-      → above (stepped .before .before .args .x0) (stepped .before .before .args .dx)
-      (stepped .before .before .args .split) (stepped .before .before .args .threshold) time ≡ b
+  apart : (b : Bool) → lt (call stepped .args .threshold) (c .nearest .result .squared) ≡ b
+      → above (call stepped .args .x0) (call stepped .args .dx) (call stepped .args .split) (call stepped .args .threshold) (time stepped) ≡ b
   unfolding above squaredAt
-  apart b t = ap (λ (n : Nearest). lt (stepped .before .before .args .threshold) (n .squared)) (sym at-time) ∙ t
+  apart b t = ap (λ (n : Nearest). lt (call stepped .args .threshold) (n .squared)) (sym at-time) ∙ t
+
+  more : probes stepped < call stepped .args .allowance
+  more = omega (arith, c .before .before .if2 .left, stepped .before .loop .inv .small)
+
+  in-limit : lt (call stepped .args .l .«max_t») (time stepped) ≡ false
+  in-limit = c .before .before .before .if1 .left
 
 returns-3 : tie.Need-returns-3 Inv-loop μ-loop
 returns-3 c =
     let p = c .before .before .before in
     let n = stepped p in
-    let s = n .before .loop in
-    let a = n .before .before .args in
-    meets (a .x0) (a .dx) (a .split) (a .threshold) (a .l) allowance (s .probes) (here (n .before)) _ (s .inv .small)
-    (s .inv .rest) (n .next-time .result) (n .next-time .ensures) (p .before .before .if2 .left)
-    (p .before .before .before .if1 .left) (c .close-in .result .lower) (c .close-in .result .count)
-    (apart p false (c .before .if3 .left)) (c .close-in .ensures .0) (c .close-in .ensures .1)
+    let a = call n .args in
+    ended _ _ _ _ (c .met .ensures)
+    (capped-ends (run n) (a .allowance) _ (probes n) _ (n .before .loop .inv) (more p) _
+    (meets (a .x0) (a .dx) (a .split) (a .threshold) (a .l) (probes n) (here n) (time n) (n .next-time .ensures)
+    (in-limit p) (apart p false (c .before .if3 .left))))
 
 loop-again : tie.Need-loop-again Inv-loop μ-loop
 loop-again c =
     let p = c .before .before in
     let n = stepped p in
-    let s = n .before .loop in
-    let a = n .before .before .args in
-    let more : s .probes ≡ allowance → ⊥ = p .before .before .if2 .left in
-    record {
-      small = omega (arith, more, s .inv .small);
-      rest =
-          (λ i. told (s .probes + 1)
-          (walk (a .x0) (a .dx) (a .split) (a .threshold) (a .l) (allowance - (s .probes + 1))
-          (record { time = time p; points = p .before .add-scaled .ensures i; near = at-time p i })))
-          ∙ steps (a .x0) (a .dx) (a .split) (a .threshold) (a .l) allowance (s .probes) (here (n .before)) _
-          (s .inv .small) (s .inv .rest) (n .next-time .result) (n .next-time .ensures) more
-          (p .before .before .before .if1 .left) (apart p true (c .if3 .taken));
-    }
+    let a = call n .args in
+    capped-goes-on (run n) (a .allowance) _ (probes n) _ (n .before .loop .inv) (more p)
+    (probes n + 1, at (time n) (p .before .add-scaled .result) (p .nearest .result))
+    (λ k. steps (a .x0) (a .dx) (a .split) (a .threshold) (a .l) (probes n) (here n) (time n) (n .next-time .ensures)
+    (in-limit p) (apart p true (c .if3 .taken)) k
+    ∙ sym (λ i. run n k (probes n + 1, at (time n) (p .before .add-scaled .ensures i) (at-time p i))))
 
 pub walk-spec : {M : Type 1} → statement M
 walk-spec =
     tie.close
-    (tie.spec Inv-loop μ-loop loop-holds (λ c κs. search needs) (λ c κs. search needs) returns returns-2
-    (λ c. omega arith) (λ c κs. search needs) (λ c κs. search needs) (λ c. omega arith) loop-again
-    (λ c κs. search needs) returns-3)
+    (tie.spec Inv-loop μ-loop loop-holds (λ c κs. search needs) (λ c κs. search needs) (λ c κs. search needs) returns
+    (λ c κs. search needs) returns-2 (λ c. omega arith) (λ c κs. search needs) (λ c κs. search needs) (λ c. omega arith)
+    loop-again (λ c κs. search needs) returns-3)

@@ -1,11 +1,11 @@
--- `ccd3::step::step` meets its contract, by either way through its test. Assumes nothing.
+-- `ccd3::step::step_length` meets its contract, by either way through its test. Assumes nothing.
 use borrow.Author.Needs.{needs}
-use Rattle.ccd3.specs.Step.{step}
-use Rattle.ccd3.proofs.step.step.Statement.{statement}
-use Rattle.ccd3.proofs.step.step.Tie as tie
+use Rattle.ccd3.specs.Step.{stepFrom, directional}
+use Rattle.ccd3.proofs.step.step_length.Statement.{statement}
+use Rattle.ccd3.proofs.step.step_length.Tie as tie
 
 returns : tie.Need-returns
-unfolding step
+unfolding stepFrom
 returns c =
     rw (
       c .larger .ensures,
@@ -15,10 +15,10 @@ returns c =
     )
 
 returns-2 : tie.Need-returns-2
-unfolding step
+unfolding stepFrom
 returns-2 c = rw (← c .before .before .before .root .ensures, c .if1 .left)
 
-pub step-spec : {M : Type 1} → statement M
-step-spec =
+pub step-length-spec : {M : Type 1} → statement M
+step-length-spec =
     tie.close
     (tie.spec (λ c κs. search needs) (λ c κs. search needs) (λ c κs. search needs) returns returns-2)

@@ -1,0 +1,29 @@
+-- `ccd3::safe_time::safe_walk` meets its contract, by either way through its test. Assumes nothing.
+use mathlib.Core.Path.{sym, ap, _∙_}
+use borrow.Author.Needs.{needs}
+use Rattle.ccd3.specs.Walk.{counted}
+use Rattle.ccd3.proofs.StartLaws.{number-admission, safe-refused}
+use Rattle.ccd3.proofs.safe_time.safe_walk.Statement.{statement}
+use Rattle.ccd3.proofs.safe_time.safe_walk.Tie as tie
+
+-- what is admitted
+admitted-requires : tie.Need-admitted-requires
+admitted-requires c κs = sym (c .before .admit-walk .ensures) ∙ c .if1 .taken
+
+returns : tie.Need-returns
+returns c = c .admitted .ensures
+
+returns-2 : tie.Need-returns-2
+returns-2 c =
+    let admission = c .before .before in
+    let a = admission .before .args in
+    let other = c .before .if1 .left in
+    let number = number-admission (a .x0) (a .dx) (a .split) (a .limits) (admission .admit-walk .result)
+    (sym (admission .admit-walk .ensures)) other in
+    c .still .ensures
+    ∙ ap (counted 0) (sym (safe-refused (a .x0) (a .dx) (a .split) (a .limits) (a .allowance) _ number other))
+
+pub safe-walk-spec : {M : Type 1} → statement M
+safe-walk-spec =
+    tie.close
+    (tie.spec (λ c κs. search needs) admitted-requires (λ c κs. search needs) returns returns-2)
