@@ -15,7 +15,7 @@ use Rattle.distance.proofs.Measured.{nearest-measured}
 use Rattle.distance.proofs.Alike.Start.{start-same}
 use Rattle.admission.specs.declared.Limits.{Limits}
 use Rattle.admission.proofs.Admitted.{Walkable, points-within}
-use Rattle.ccd3.specs.Walk.{squaredAt}
+use Rattle.ccd3.specs.SafeTime.{squaredAt}
 use Rattle.ccd3.proofs.Growth.{Sound}
 use Rattle.ccd3.proofs.PlainStep.{Given}
 use Rattle.ccd3.proofs.Standing.{Ground}

@@ -9,8 +9,7 @@ use Rattle.number.specs.Number.{zero32}
 use Rattle.admission.specs.declared.Limits.{Limits}
 use Rattle.admission.specs.Admission.{walkRefusal}
 use Rattle.ccd3.specs.declared.Answer.the-variants.{Touching, Refused}
-use Rattle.ccd3.specs.Walk.{Walked, start, walk}
-use Rattle.ccd3.specs.SafeTime.{threshold, still, touches, between, safeRefusal, safeWalk}
+use Rattle.ccd3.specs.SafeTime.{Walked, start, walk, threshold, still, touches, between, safeRefusal, safeWalk}
 
 module _ (x₀ dx : List (List Float)) (split : ℕ) (l : Limits) where
   -- ---- the refusal's number

@@ -1,4 +1,4 @@
--- What a walk does from a visit: the four laws by which it is known (specs/Walk.antt), of any threshold and any number
+-- What a walk does from a visit: the four laws by which it is known (specs/SafeTime.antt), of any threshold and any number
 -- of probes left. Assumes nothing.
 use mathlib.Core.Path.{_≡_, ap, _∙_}
 use mathlib.Core.Bool.{Bool, true, false}
@@ -7,7 +7,7 @@ use Prim.Native.Nat.{ℕ, zero, suc}
 use lib.Ieee.{Float, lt}
 use Rattle.admission.specs.declared.Limits.{Limits}
 use Rattle.ccd3.specs.Step.{Visit, next}
-use Rattle.ccd3.specs.Walk.{Walked, visit, above, cleared, spent, met, ends, probing, walk}
+use Rattle.ccd3.specs.SafeTime.{Walked, visit, above, cleared, spent, met, ends, probing, walk}
 
 module _ (x₀ dx : List (List Float)) (split : ℕ) (threshold : Float) (l : Limits) where
   abbrev past : Visit → Bool

@@ -1,5 +1,5 @@
 -- A loop that follows `walk`, turn by turn, over the law for loops with a cap: what a walk from the present visit tells
--- after the probes made (specs/Walk.antt), of any threshold. Assumes nothing.
+-- after the probes made (specs/SafeTime.antt), of any threshold. Assumes nothing.
 use mathlib.Core.Path.{_≡_, sym, ap, _∙_}
 use mathlib.Core.Bool.{Bool, true, false}
 use mathlib.Core.List.{List}
@@ -11,7 +11,7 @@ use Rattle.admission.specs.declared.Limits.{Limits}
 use Rattle.ccd3.specs.declared.Ending.{Ending}
 use Rattle.ccd3.specs.declared.Counted.{Counted}
 use Rattle.ccd3.specs.Step.{Visit, next}
-use Rattle.ccd3.specs.Walk.{Walked, visit, above, cleared, spent, met, ends, probing, walk, counted}
+use Rattle.ccd3.specs.SafeTime.{Walked, visit, above, cleared, spent, met, ends, probing, walk, counted}
 use Rattle.ccd3.proofs.WalkLaws.{walk-clears, walk-spends, walk-meets, walk-steps}
 
 -- a walk that ends has made the probes made; a probe more is one more of them

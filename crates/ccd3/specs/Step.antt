@@ -15,13 +15,6 @@ use Rattle.ccd3.specs.declared.Aim.{Aim}
 
 -- ---- the directional step: how far the pair may move before some column of the first side can come near some column
 -- of the second along the direction w
--- 2 ^ -22, the slack for rounding; 6.2e-7, the slack for coordinates
-abbrev pub roundSlack : Float
-roundSlack = ofBits binary32 0x3480_0000
-
-abbrev pub coordSlack : Float
-coordSlack = ofBits binary32 0x3526_6e13
-
 -- the split as the distance rules take it: 2, and any other as 3
 abbrev pub twoOrThree : ℕ → ℕ
 twoOrThree split = cond (eqb split 2) 2 3
@@ -36,15 +29,13 @@ abbrev pub sizes : List Float → List Float
 sizes v = vec (size (at v 0)) (size (at v 1)) (size (at v 2))
 
 module _ (a : Aim) where
-  -- what rounding may have added to the projected gap
-  abbrev pub err : List Float → List Float → Float
-  err g r =
-      roundSlack
-      ⊗ (dot (sizes (a .w)) (sizes g) ⊕ a .«max_t» ⊗ dot (sizes (a .w)) (sizes r) ⊕ a .park ⊗ a .norm)
-      ⊕ coordSlack ⊗ a .norm
-
+  -- a gap along w, less what rounding may have added to it: 2 ^ -22 is the slack for rounding, 6.2e-7 for coordinates
   unfoldable pub projected : List Float → List Float → Float
-  projected g r = dot (a .w) g ⊖ err g r
+  projected g r =
+      dot (a .w) g
+      ⊖ (ofBits binary32 0x3480_0000
+      ⊗ (dot (sizes (a .w)) (sizes g) ⊕ a .«max_t» ⊗ dot (sizes (a .w)) (sizes r) ⊕ a .park ⊗ a .norm)
+      ⊕ ofBits binary32 0x3526_6e13 ⊗ a .norm)
 
   -- the time in which a pair at this projected gap comes to park, at this speed
   unfoldable pub timeToPark : Float → Float → Float

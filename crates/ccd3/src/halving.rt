@@ -1,7 +1,7 @@
 // The halving between a time above the threshold and one that is not (ccd3.rs: the second loop of
 // `maximum_safe_time_accurate`).
 ghost use mathlib.Core.Path.{_≡_};
-ghost use Rattle.ccd3.specs.Walk as Def;
+ghost use Rattle.ccd3.specs.SafeTime as Def;
 use geometry::mat3x4_array_of_cols::add_scaled;
 
 // Where the halving ended: the last time above the threshold and the first that is not, and how many halvings there

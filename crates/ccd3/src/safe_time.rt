@@ -1,7 +1,6 @@
 // The safe time of a pair (ccd3.rs: `maximum_safe_time_accurate`; docs/01-scope.md, "The walk").
 ghost use mathlib.Core.Path.{_≡_};
 ghost use Rattle.admission.specs.Admission.{walkRefusal};
-ghost use Rattle.ccd3.specs.Walk.{counted};
 ghost use Rattle.ccd3.specs.SafeTime as Def;
 use crate::Answer;
 use crate::Counted;
@@ -25,7 +24,7 @@ fn threshold(l: Limits) -> f32
 
 // An answer with no walk.
 fn still(answer: Answer) -> Counted
-    ensures { λ r. ⌜ r ≡ counted 0 (Def.still answer) ⌝ }
+    ensures { λ r. ⌜ r ≡ Def.counted 0 (Def.still answer) ⌝ }
 {
     let ending = unbracketed(answer, 0.0);
     Counted { ending, probes: 0 }
@@ -40,7 +39,7 @@ fn admitted(
     allowance: u32,
 ) -> Counted
     requires { ⌜ walkRefusal x0 dx split l ≡ 0 ⌝ }
-    ensures { λ r. ⌜ r ≡ counted 0 (Def.safeWalk x0 dx split l allowance) ⌝ }
+    ensures { λ r. ⌜ r ≡ Def.counted 0 (Def.safeWalk x0 dx split l allowance) ⌝ }
 {
     let first = nearest(x0, split);
     let squared_offset = l.offset * l.offset;
@@ -63,7 +62,7 @@ fn safe_walk(
     limits: Limits,
     allowance: u32,
 ) -> Counted
-    ensures { λ r. ⌜ r ≡ counted 0 (Def.safeWalk x0 dx split limits allowance) ⌝ }
+    ensures { λ r. ⌜ r ≡ Def.counted 0 (Def.safeWalk x0 dx split limits allowance) ⌝ }
 {
     let refusal = admit_walk(x0, dx, split, limits);
     if refusal == 0 {

@@ -2,7 +2,7 @@
 // any number of probes allowed.
 ghost use mathlib.Core.Path.{_≡_};
 ghost use Rattle.number.specs.Number.{zero32};
-ghost use Rattle.ccd3.specs.Walk as Def;
+ghost use Rattle.ccd3.specs.SafeTime as Def;
 use crate::Answer;
 use crate::Counted;
 use crate::Ending;

@@ -7,7 +7,7 @@ use Prim.Native.Nat.{ℕ}
 use Rattle.number.specs.declared.answer.Answered.{Answered}
 use Rattle.number.specs.Number.{refusalOf, valueOf}
 use Rattle.ccd3.specs.declared.SafeTime as Walked
-use Rattle.ccd3.specs.Walk as Ends
+use Rattle.ccd3.specs.SafeTime as Ends
 use Rattle.urtemval.specs.declared.answer.SafeTime.{SafeTime}
 use Rattle.urtemval.specs.declared.answer.Value.{Value}
 

@@ -1,6 +1,6 @@
 -- `ccd3::halving::is_above` meets its contract. Assumes nothing.
 use borrow.Author.Needs.{needs}
-use Rattle.ccd3.specs.Walk.{squaredAt, above}
+use Rattle.ccd3.specs.SafeTime.{squaredAt, above}
 use Rattle.ccd3.proofs.halving.is_above.Statement.{statement}
 use Rattle.ccd3.proofs.halving.is_above.Tie as tie
 

@@ -7,8 +7,7 @@ use denote.Struct.Laws.{owed}
 use Rattle.admission.proofs.Limits.{the-type}
 use Rattle.admission.proofs.Limits.Laws.{the-laws}
 use Rattle.ccd3.specs.declared.SafeTime.{SafeTime}
-use Rattle.ccd3.specs.Walk.{told}
-use Rattle.ccd3.specs.SafeTime.{safeTimeOf, Promises}
+use Rattle.ccd3.specs.SafeTime.{told, safeTimeOf, Promises}
 use Rattle.ccd3.proofs.Handed.{points-fit}
 use Rattle.ccd3.proofs.Admitted.{Fitting}
 use Rattle.ccd3.proofs.Promises.{safe-time-promised}
