@@ -21,15 +21,6 @@ abbrev μ-loop : tie.MeasureT-loop
 loop-holds : tie.Need-loop-holds Inv-loop μ-loop
 loop-holds c = (search needs, rw sub-zero)
 
-scaled-requires : tie.Need-scaled-requires Inv-loop μ-loop
-scaled-requires c κs = search needs
-
-add-k : tie.Need-add-k Inv-loop μ-loop
-add-k c = omega arith
-
-loop-less : tie.Need-loop-less Inv-loop μ-loop
-loop-less c = omega arith
-
 loop-again : tie.Need-loop-again Inv-loop μ-loop
 unfolding eightfold
 loop-again c =
@@ -37,9 +28,6 @@ loop-again c =
     let n = c .before .before .before .args .by .eights in
     let e : n - l .k ≡ suc (n - (l .k + 1)) = omega arith in
     (omega arith, ap (eightfold (n - (l .k + 1))) (c .scaled .ensures) ∙ rw e at (l .inv .1))
-
-scaled-requires-2 : tie.Need-scaled-requires-2 Inv-loop μ-loop
-scaled-requires-2 c κs = search needs
 
 returns : tie.Need-returns Inv-loop μ-loop
 unfolding eightfold scaledBy
@@ -57,9 +45,9 @@ scaled-by-spec =
     Inv-loop
     μ-loop
     loop-holds
-    scaled-requires
-    add-k
-    loop-less
+    (search needs)
+    (λ c. omega arith)
+    (λ c. omega arith)
     loop-again
-    scaled-requires-2
+    (search needs)
     returns)

@@ -40,33 +40,6 @@ loop-holds c = (search needs, rw sub-zero)
 loop2-holds : tie.Need-loop2-holds Inv-loop2 μ-loop2 Inv-loop μ-loop
 loop2-holds c = (search needs, refl)
 
-mul-xi : tie.Need-mul-xi Inv-loop2 μ-loop2 Inv-loop μ-loop
-mul-xi c = omega arith
-
-array-copy-out-xi : tie.Need-array-copy-out-xi Inv-loop2 μ-loop2 Inv-loop μ-loop
-array-copy-out-xi c = omega arith
-
-mul-xj : tie.Need-mul-xj Inv-loop2 μ-loop2 Inv-loop μ-loop
-mul-xj c = omega arith
-
-array-copy-out-xj : tie.Need-array-copy-out-xj Inv-loop2 μ-loop2 Inv-loop μ-loop
-array-copy-out-xj c = omega arith
-
-sub-requires : tie.Need-sub-requires Inv-loop2 μ-loop2 Inv-loop μ-loop
-sub-requires c κs = search needs
-
-dot-requires : tie.Need-dot-requires Inv-loop2 μ-loop2 Inv-loop μ-loop
-dot-requires c κs = search needs
-
-larger-requires : tie.Need-larger-requires Inv-loop2 μ-loop2 Inv-loop μ-loop
-larger-requires c κs = search needs
-
-add-j : tie.Need-add-j Inv-loop2 μ-loop2 Inv-loop μ-loop
-add-j c = omega arith
-
-loop2-less : tie.Need-loop2-less Inv-loop2 μ-loop2 Inv-loop μ-loop
-loop2-less c = omega arith
-
 loop2-again : tie.Need-loop2-again Inv-loop2 μ-loop2 Inv-loop μ-loop
 unfolding gapSquare
 loop2-again c =
@@ -77,12 +50,6 @@ loop2-again c =
     let j = l .loop2 .j in
     let h : c .larger .result ≡ turn x i m j = cc in
     (omega arith, fold-turn (turn x i) j 4 m _ (omega arith) h ∙ l .loop2 .inv .1)
-
-add-i : tie.Need-add-i Inv-loop2 μ-loop2 Inv-loop μ-loop
-add-i c = omega arith
-
-loop-less : tie.Need-loop-less Inv-loop2 μ-loop2 Inv-loop μ-loop
-loop-less c = omega arith
 
 loop-again : tie.Need-loop-again Inv-loop2 μ-loop2 Inv-loop μ-loop
 loop-again c =
@@ -108,17 +75,17 @@ largest-square-spec =
     μ-loop
     loop-holds
     loop2-holds
-    mul-xi
-    array-copy-out-xi
-    mul-xj
-    array-copy-out-xj
-    sub-requires
-    dot-requires
-    larger-requires
-    add-j
-    loop2-less
+    (λ c. omega arith)
+    (λ c. omega arith)
+    (λ c. omega arith)
+    (λ c. omega arith)
+    (search needs)
+    (search needs)
+    (search needs)
+    (λ c. omega arith)
+    (λ c. omega arith)
     loop2-again
-    add-i
-    loop-less
+    (λ c. omega arith)
+    (λ c. omega arith)
     loop-again
     returns)

@@ -28,12 +28,6 @@ module _ (p q : List Float) (s : Float) (n : ℕ) (e : n ≡ ratioRefusal p q s)
     λ z. subst (λ (v : List Float). T (ofThree isFinite v)) (sym h) (place-finite p q s (sym e ∙ z)),
   )
 
-admit-ratio-requires : tie.Need-admit-ratio-requires
-admit-ratio-requires c κs = search needs
-
-lerp-requires : tie.Need-lerp-requires
-lerp-requires c κs = search needs
-
 returns : tie.Need-returns
 returns c =
     let e = c .before .before .admit-ratio .ensures in
@@ -43,4 +37,4 @@ returns-2 : tie.Need-returns-2
 returns-2 c = let e = c .before .admit-ratio .ensures in made _ _ _ _ e _ (refused _ _ _ _ e (c .if1 .left))
 
 pub lerp-spec : {M : Type 1} → statement M
-lerp-spec = tie.close (tie.spec admit-ratio-requires lerp-requires returns returns-2)
+lerp-spec = tie.close (tie.spec (search needs) (search needs) returns returns-2)
