@@ -46,4 +46,4 @@ returns-2 c =
 
 pub cubic-roots-in-range-zero-to-t-spec : {M : Type 1} → statement M
 cubic-roots-in-range-zero-to-t-spec =
-    tie.close (tie.spec (search needs) (search needs) returns (search needs) returns-2)
+    tie.close (tie.spec (search needs) (search needs) (search needs) returns returns-2)
