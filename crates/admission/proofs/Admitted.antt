@@ -15,14 +15,12 @@ use Rattle.number.proofs.Comparing.{all-three, all-four}
 use Rattle.number.proofs.Within.{Within, within-finite}
 use Rattle.number.proofs.Finite.{is-finite}
 use Rattle.number.proofs.Ranges.{in-bound, zero-to-bound, zero-to-one, speed-range}
+use Rattle.geometry.proofs.Bounds.{Each}
 use Rattle.geometry.specs.Geometry.{at, col}
 use Rattle.admission.specs.declared.Limits.{Limits}
 use Rattle.admission.specs.Admission.{ofThree, ofTwelve, finitePoints, boundedPoints, isSplit, finiteLimits, rangedLimits, finiteWalk, rangedWalk, walkRefusal, pointsRefusal, splitRefusal, factorRefusal, motionRefusal, timeRefusal, ratioRefusal}
 
 -- ---- the numbers of four points, by column and place
-abbrev pub Each : (Float → Bool) → List (List Float) → Type 0
-Each test x = (i j : ℕ) → i < 4 → j < 3 → T (test (at (col x i) j))
-
 module _ (test : Float → Bool) where
   pub three-each : (v : List Float) → T (ofThree test v) → (j : ℕ) → j < 3 → T (test (at v j))
   three-each v h zero l = all-three (test (at v 0)) (test (at v 1)) (test (at v 2)) h .0

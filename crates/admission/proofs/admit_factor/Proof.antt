@@ -17,11 +17,4 @@ returns c =
 
 pub admit-factor-spec : {M : Type 1} → statement M
 admit-factor-spec =
-    tie.close
-    (tie.spec
-    (search needs)
-    (search needs)
-    (search needs)
-    (search needs)
-    (search needs)
-    returns)
+    tie.close (tie.spec (search needs) (search needs) (search needs) (search needs) (search needs) returns)

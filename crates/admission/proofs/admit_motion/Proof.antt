@@ -5,8 +5,10 @@ use mathlib.Core.Bool.{Bool, true, false, _&&_}
 use mathlib.Core.List.{List}
 use lib.Ieee.{Float}
 use borrow.Author.Needs.{needs}
-use Rattle.admission.specs.Admission.{finitePoints, boundedPoints, refusal, motionRefusal}
-use Rattle.admission.proofs.Admitted.{ranged-none, ranged-beyond, pair-real}
+use Rattle.number.specs.Number.{refusal}
+use Rattle.number.proofs.Answers.{ranged-none, ranged-beyond}
+use Rattle.admission.specs.Admission.{finitePoints, boundedPoints, motionRefusal}
+use Rattle.admission.proofs.Admitted.{pair-real}
 use Rattle.admission.proofs.admit_motion.Statement.{statement}
 use Rattle.admission.proofs.admit_motion.Tie as tie
 
@@ -42,11 +44,4 @@ returns-2 c =
 pub admit-motion-spec : {M : Type 1} → statement M
 admit-motion-spec =
     tie.close
-    (tie.spec
-    (search needs)
-    (search needs)
-    returns
-    (search needs)
-    (search needs)
-    (search needs)
-    returns-2)
+    (tie.spec (search needs) (search needs) returns (search needs) (search needs) (search needs) returns-2)

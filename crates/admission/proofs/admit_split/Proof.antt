@@ -7,8 +7,10 @@ use mathlib.Core.List.{List}
 use lib.Ieee.{Float}
 use lib.Ieee.Fits.{and-l}
 use borrow.Author.Needs.{needs}
-use Rattle.admission.specs.Admission.{finitePoints, boundedPoints, isSplit, refusal, splitRefusal}
-use Rattle.admission.proofs.Admitted.{ranged-none, ranged-beyond, points-real}
+use Rattle.number.specs.Number.{refusal}
+use Rattle.number.proofs.Answers.{ranged-none, ranged-beyond}
+use Rattle.admission.specs.Admission.{finitePoints, boundedPoints, isSplit, splitRefusal}
+use Rattle.admission.proofs.Admitted.{points-real}
 use Rattle.admission.proofs.admit_split.Statement.{statement}
 use Rattle.admission.proofs.admit_split.Tie as tie
 
@@ -41,11 +43,4 @@ returns-2 c =
 
 pub admit-split-spec : {M : Type 1} → statement M
 admit-split-spec =
-    tie.close
-    (tie.spec
-    (search needs)
-    (search needs)
-    returns
-    (search needs)
-    (search needs)
-    returns-2)
+    tie.close (tie.spec (search needs) (search needs) returns (search needs) (search needs) returns-2)

@@ -7,9 +7,10 @@ use lib.Dec.{T}
 use lib.Ieee.{Float}
 use lib.Ieee.Fits.{and-i, and-l, and-r}
 use borrow.Author.Needs.{needs}
-use Rattle.number.specs.Number.{isFinite, zeroToOne}
-use Rattle.admission.specs.Admission.{finitePoints, boundedPoints, refusal, timeRefusal}
-use Rattle.admission.proofs.Admitted.{ranged-none, ranged-beyond, pair-real, one-real}
+use Rattle.number.specs.Number.{isFinite, zeroToOne, refusal}
+use Rattle.number.proofs.Answers.{ranged-none, ranged-beyond}
+use Rattle.admission.specs.Admission.{finitePoints, boundedPoints, timeRefusal}
+use Rattle.admission.proofs.Admitted.{pair-real, one-real}
 use Rattle.admission.proofs.admit_time.Statement.{statement}
 use Rattle.admission.proofs.admit_time.Tie as tie
 
@@ -59,13 +60,5 @@ returns-2 c =
 pub admit-time-spec : {M : Type 1} → statement M
 admit-time-spec =
     tie.close
-    (tie.spec
-    (search needs)
-    (search needs)
-    (search needs)
-    returns
-    (search needs)
-    (search needs)
-    (search needs)
-    (search needs)
-    returns-2)
+    (tie.spec (search needs) (search needs) (search needs) returns (search needs) (search needs) (search needs)
+    (search needs) returns-2)

@@ -16,10 +16,4 @@ returns c =
 
 pub limits-finite-spec : {M : Type 1} → statement M
 limits-finite-spec =
-    tie.close
-    (tie.spec
-    (search needs)
-    (search needs)
-    (search needs)
-    (search needs)
-    returns)
+    tie.close (tie.spec (search needs) (search needs) (search needs) (search needs) returns)

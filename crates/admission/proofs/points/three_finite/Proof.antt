@@ -9,11 +9,4 @@ returns c = rw (c .is-finite3 .ensures, c .before .is-finite2 .ensures, c .befor
 pub three-finite-spec : {M : Type 1} → statement M
 three-finite-spec =
     tie.close
-    (tie.spec
-    (search needs)
-    (search needs)
-    (search needs)
-    (search needs)
-    (search needs)
-    (search needs)
-    returns)
+    (tie.spec (search needs) (search needs) (search needs) (search needs) (search needs) (search needs) returns)

@@ -9,11 +9,4 @@ returns c = rw (c .in-bound3 .ensures, c .before .in-bound2 .ensures, c .before 
 pub three-in-bound-spec : {M : Type 1} → statement M
 three-in-bound-spec =
     tie.close
-    (tie.spec
-    (search needs)
-    (search needs)
-    (search needs)
-    (search needs)
-    (search needs)
-    (search needs)
-    returns)
+    (tie.spec (search needs) (search needs) (search needs) (search needs) (search needs) (search needs) returns)

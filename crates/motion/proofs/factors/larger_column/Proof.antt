@@ -9,14 +9,5 @@ returns c = rw (c .larger-entry3 .ensures, c .before .larger-entry2 .ensures, c 
 pub larger-column-spec : {M : Type 1} → statement M
 larger-column-spec =
     tie.close
-    (tie.spec
-    (search needs)
-    (search needs)
-    (search needs)
-    (search needs)
-    (search needs)
-    (search needs)
-    (search needs)
-    (search needs)
-    (search needs)
-    returns)
+    (tie.spec (search needs) (search needs) (search needs) (search needs) (search needs) (search needs)
+    (search needs) (search needs) (search needs) returns)

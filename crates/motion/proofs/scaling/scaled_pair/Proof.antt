@@ -56,17 +56,5 @@ returns-4 c =
 pub scaled-pair-spec : {M : Type 1} → statement M
 scaled-pair-spec =
     tie.close
-    (tie.spec
-    (search needs)
-    (search needs)
-    returns
-    (search needs)
-    (search needs)
-    (search needs)
-    returns-2
-    eighths-requires
-    (search needs)
-    (search needs)
-    (search needs)
-    returns-3
-    returns-4)
+    (tie.spec (search needs) (search needs) returns (search needs) (search needs) (search needs) returns-2
+    eighths-requires (search needs) (search needs) (search needs) returns-3 returns-4)

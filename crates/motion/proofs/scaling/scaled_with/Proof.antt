@@ -25,11 +25,4 @@ returns c =
 
 pub scaled-with-spec : {M : Type 1} → statement M
 scaled-with-spec =
-    tie.close
-    (tie.spec
-    (search needs)
-    (search needs)
-    (search needs)
-    (search needs)
-    (search needs)
-    returns)
+    tie.close (tie.spec (search needs) (search needs) (search needs) (search needs) (search needs) returns)

@@ -31,13 +31,5 @@ float-to-bits-result c = no-nan-le _ _ (subst T (sym (c .if1 .taken)) tt) .1
 pub estimate-spec : {M : Type 1} → statement M
 estimate-spec =
     tie.close
-    (tie.spec
-    float-from-bits-x
-    float-to-float-x
-    (search needs)
-    float-from-bits-s0
-    float-to-float-s0
-    float-to-bits-result
-    (search needs)
-    (search needs)
-    (search needs))
+    (tie.spec float-from-bits-x float-to-float-x (search needs) float-from-bits-s0 float-to-float-s0
+    float-to-bits-result (search needs) (search needs) (search needs))

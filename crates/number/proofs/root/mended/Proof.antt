@@ -47,22 +47,6 @@ returns c = (omega arith, omega arith)
 pub mended-spec : {M : Type 1} → statement M
 mended-spec =
     tie.close
-    (tie.spec
-    Inv-loop
-    μ-loop
-    Inv-loop2
-    μ-loop2
-    (λ c. omega arith)
-    mul-loop
-    sub-root
-    loop-less
-    (λ c. omega arith)
-    mul-rest
-    (λ c. omega arith)
-    loop2-holds
-    (λ c. omega arith)
-    (λ c. omega arith)
-    (λ c. omega arith)
-    (λ c. omega arith)
-    loop2-again
-    returns)
+    (tie.spec Inv-loop μ-loop Inv-loop2 μ-loop2 (λ c. omega arith) mul-loop sub-root loop-less (λ c. omega arith)
+    mul-rest (λ c. omega arith) loop2-holds (λ c. omega arith) (λ c. omega arith) (λ c. omega arith)
+    (λ c. omega arith) loop2-again returns)

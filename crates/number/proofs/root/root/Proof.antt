@@ -120,19 +120,6 @@ returns-4 c = not-above (c .before .args .x) (c .if1 .left)
 pub root-spec : {M : Type 1} → statement M
 root-spec =
     tie.close
-    (tie.spec
-    float-to-bits-b
-    sub-z
-    shl-root-bits
-    sub-root-bits
-    root-bits-requires
-    float-from-bits-result
-    (search needs)
-    (search needs)
-    (search needs)
-    (search needs)
-    float-from-bits-result-2
-    returns
-    returns-2
-    returns-3
-    returns-4)
+    (tie.spec float-to-bits-b sub-z shl-root-bits sub-root-bits root-bits-requires float-from-bits-result
+    (search needs) (search needs) (search needs) (search needs) float-from-bits-result-2 returns returns-2
+    returns-3 returns-4)

@@ -64,19 +64,6 @@ returns-2 c =
 pub root-bits-spec : {M : Type 1} → statement M
 root-bits-spec =
     tie.close
-    (tie.spec
-    (search needs)
-    (search needs)
-    (search needs)
-    (search needs)
-    (search needs)
-    (search needs)
-    (search needs)
-    whole-root-requires
-    cast-root
-    (search needs)
-    add-result
-    add-result-2
-    add-result-3
-    returns
+    (tie.spec (search needs) (search needs) (search needs) (search needs) (search needs) (search needs)
+    (search needs) whole-root-requires cast-root (search needs) add-result add-result-2 add-result-3 returns
     returns-2)

@@ -1,6 +1,6 @@
 -- `pair::norm::norm` meets its contract. Assumes nothing.
 use borrow.Author.Needs.{needs}
-use Rattle.pair.specs.Norm.{normOf}
+use Rattle.pair.specs.Points.{normOf}
 use Rattle.pair.proofs.norm.norm.Statement.{statement}
 use Rattle.pair.proofs.norm.norm.Tie as tie
 

@@ -5,21 +5,18 @@ use mathlib.Core.List.{List}
 use lib.Dec.{T}
 use lib.Ieee.{Float}
 use borrow.Author.Needs.{needs}
-use Rattle.number.specs.Number.{zero32, isFinite, admitted}
-use Rattle.geometry.specs.Geometry.{vec, lerpOf}
+use Rattle.number.specs.Number.{isFinite, admitted}
+use Rattle.geometry.specs.Geometry.{lerpOf}
 use Rattle.pair.specs.declared.points.Placed.{Placed}
 use Rattle.admission.specs.Admission.{ofThree, ratioRefusal}
-use Rattle.pair.specs.Points.{placed}
+use Rattle.pair.specs.Points.{placed, zeros}
 use Rattle.pair.proofs.StayFinite.{place-finite}
 use Rattle.number.proofs.Answers.{taken, refused}
 use Rattle.pair.proofs.points.lerp.Statement.{statement}
 use Rattle.pair.proofs.points.lerp.Tie as tie
 
 module _ (p q : List Float) (s : Float) (n : ℕ) (e : n ≡ ratioRefusal p q s) where
-  abbrev Zeros : List Float
-  Zeros = vec zero32 zero32 zero32
-
-  made : (v : List Float) → v ≡ admitted (ratioRefusal p q s) (lerpOf p q s) Zeros
+  made : (v : List Float) → v ≡ admitted (ratioRefusal p q s) (lerpOf p q s) zeros
       → let r : Placed = record { refusal = n; point = v } in
       (r ≡ placed p q s) × (n ≡ 0 → T (ofThree isFinite v))
   unfolding placed

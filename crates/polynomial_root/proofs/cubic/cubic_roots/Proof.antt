@@ -18,11 +18,4 @@ returns-2 c =
 
 pub cubic-roots-spec : {M : Type 1} → statement M
 cubic-roots-spec =
-    tie.close
-    (tie.spec
-    (search needs)
-    (search needs)
-    (search needs)
-    (search needs)
-    returns
-    returns-2)
+    tie.close (tie.spec (search needs) (search needs) (search needs) (search needs) returns returns-2)

@@ -19,12 +19,5 @@ returns-3 c = rw (c .before .before .f2 .given .1) (c .refused .ensures)
 pub joined-spec : {M : Type 1} → statement M
 joined-spec =
     tie.close
-    (tie.spec
-    (search needs)
-    (search needs)
-    (search needs)
-    (search needs)
-    (search needs)
-    returns
-    returns-2
+    (tie.spec (search needs) (search needs) (search needs) (search needs) (search needs) returns returns-2
     returns-3)

@@ -13,11 +13,4 @@ returns-2 c = rw (← c .before .before .vanishes .ensures, c .before .if1 .left
 
 pub constant-roots-spec : {M : Type 1} → statement M
 constant-roots-spec =
-    tie.close
-    (tie.spec
-    (search needs)
-    (search needs)
-    (search needs)
-    (search needs)
-    returns
-    returns-2)
+    tie.close (tie.spec (search needs) (search needs) (search needs) (search needs) returns returns-2)

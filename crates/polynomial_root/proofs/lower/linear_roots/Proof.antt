@@ -20,12 +20,4 @@ returns-3 c = rw (c .before .if1 .left) (c .refused3 .ensures)
 
 pub linear-roots-spec : {M : Type 1} → statement M
 linear-roots-spec =
-    tie.close
-    (tie.spec
-    (search needs)
-    (search needs)
-    (search needs)
-    (search needs)
-    returns
-    returns-2
-    returns-3)
+    tie.close (tie.spec (search needs) (search needs) (search needs) (search needs) returns returns-2 returns-3)

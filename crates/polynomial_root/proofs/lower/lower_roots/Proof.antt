@@ -36,14 +36,5 @@ returns-3 c =
 pub lower-roots-spec : {M : Type 1} → statement M
 lower-roots-spec =
     tie.close
-    (tie.spec
-    (search needs)
-    (search needs)
-    (search needs)
-    (search needs)
-    (search needs)
-    (search needs)
-    (search needs)
-    returns
-    returns-2
-    returns-3)
+    (tie.spec (search needs) (search needs) (search needs) (search needs) (search needs) (search needs)
+    (search needs) returns returns-2 returns-3)

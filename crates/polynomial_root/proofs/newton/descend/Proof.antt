@@ -51,17 +51,5 @@ returns-3 c =
 pub descend-spec : {M : Type 1} → statement M
 descend-spec =
     tie.close
-    (tie.spec
-    Inv-loop
-    μ-loop
-    loop-holds
-    (search needs)
-    (search needs)
-    returns
-    (search needs)
-    returns-2
-    (search needs)
-    (λ c. omega arith)
-    (λ c. omega arith)
-    loop-again
-    returns-3)
+    (tie.spec Inv-loop μ-loop loop-holds (search needs) (search needs) returns (search needs) returns-2
+    (search needs) (λ c. omega arith) (λ c. omega arith) loop-again returns-3)

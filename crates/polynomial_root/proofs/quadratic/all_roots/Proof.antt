@@ -18,12 +18,5 @@ returns-2 c =
 pub all-roots-spec : {M : Type 1} → statement M
 all-roots-spec =
     tie.close
-    (tie.spec
-    (search needs)
-    (search needs)
-    (search needs)
-    (search needs)
-    (search needs)
-    (search needs)
-    returns
+    (tie.spec (search needs) (search needs) (search needs) (search needs) (search needs) (search needs) returns
     returns-2)
