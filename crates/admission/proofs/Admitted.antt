@@ -1,65 +1,31 @@
--- What a verdict says: 0 puts every number in its range and the split at 2 or 3; 1 is met exactly where some number is
--- not finite; 2 exactly where all are and something lies beyond its range. Assumes nothing.
+-- What a call's refusal number says: 0 puts every number in its range and the split at 2 or 3; 1 is met exactly where
+-- some number is not finite; 2 exactly where all are and something lies beyond its range. Assumes nothing.
 use Prim.Native.Nat.{ℕ, zero, suc, _<_}
 use native.Mathlib.Omega.{arith}
-use mathlib.Core.Path.{_≡_, refl, sym, subst}
+use mathlib.Core.Path.{_≡_, sym, subst}
 use mathlib.Core.Logic.{_⊎_, inl, inr, _↔_}
 use mathlib.Core.Bool.{Bool, true, false, not, _&&_, _||_}
 use mathlib.Core.List.{List}
 use lib.Dec.{T, eqb, eqb→eq}
 use lib.Ieee.{Float}
-use lib.Ieee.Bits.{is-true}
 use lib.Ieee.Fits.{and-i, and-l, and-r}
-use Rattle.number.specs.Number.{isFinite, inBound, zeroToBound, zeroToOne, speedRange}
+use Rattle.number.specs.Number.{isFinite, inBound, zeroToBound, zeroToOne, speedRange, refusal}
+use Rattle.number.proofs.Answers.{refusal-none, refusal-first, refusal-second, ranged-none, ranged-beyond}
+use Rattle.number.proofs.Comparing.{all-three, all-four}
 use Rattle.number.proofs.Within.{Within, within-finite}
 use Rattle.number.proofs.Finite.{is-finite}
 use Rattle.number.proofs.Ranges.{in-bound, zero-to-bound, zero-to-one, speed-range}
+use Rattle.geometry.proofs.Bounds.{Each}
 use Rattle.geometry.specs.Geometry.{at, col}
 use Rattle.admission.specs.declared.Limits.{Limits}
-use Rattle.admission.specs.Admission.{refusal, ofThree, ofTwelve, finitePoints, boundedPoints, isSplit, finiteLimits, rangedLimits, finiteWalk, rangedWalk, walkRefusal, pointsRefusal, splitRefusal, factorRefusal, motionRefusal, timeRefusal, ratioRefusal}
-
--- ---- the three numbers of a verdict
-pub refusal-none : (finite ranged : Bool) → refusal finite ranged ≡ 0 → T finite × T ranged
-refusal-none true true e = (tt, tt)
-refusal-none true false e = omega arith
-refusal-none false true e = omega arith
-refusal-none false false e = omega arith
-
-pub refusal-first : (finite ranged : Bool) → (refusal finite ranged ≡ 1) ↔ T (not finite)
-refusal-first true true = (λ e. omega arith, λ n. absurd n)
-refusal-first true false = (λ e. omega arith, λ n. absurd n)
-refusal-first false ranged = (λ e. tt, λ n. refl)
-
-pub refusal-second : (finite ranged : Bool) → (refusal finite ranged ≡ 2) ↔ (T finite × T (not ranged))
-refusal-second true true = (λ e. omega arith, λ n. absurd (n .1))
-refusal-second true false = (λ e. (tt, tt), λ n. refl)
-refusal-second false ranged = (λ e. absurd (omega arith), λ n. absurd (n .0))
-
--- where what lies in its range is finite: in its range, admitted; beyond it, the verdict on finite numbers alone
-pub ranged-none : (finite ranged : Bool) → (T ranged → T finite) → ranged ≡ true → 0 ≡ refusal finite ranged
-ranged-none finite ranged real e = rw (is-true finite (real (subst T (sym e) tt)), e)
-
-pub ranged-beyond : (finite ranged : Bool) → ranged ≡ false → refusal finite false ≡ refusal finite ranged
-ranged-beyond finite ranged e = rw e
+use Rattle.admission.specs.Admission.{ofThree, ofTwelve, finitePoints, boundedPoints, isSplit, finiteLimits, rangedLimits, finiteWalk, rangedWalk, walkRefusal, pointsRefusal, splitRefusal, factorRefusal, motionRefusal, timeRefusal, ratioRefusal}
 
 -- ---- the numbers of four points, by column and place
-abbrev pub Each : (Float → Bool) → List (List Float) → Type 0
-Each test x = (i j : ℕ) → i < 4 → j < 3 → T (test (at (col x i) j))
-
--- the parts of a conjunction
-triple : (a b c : Bool) → T (a && b && c) → T a × T b × T c
-triple a b c h = let ab = and-l (a && b) c h in (and-l a b ab, and-r a b ab, and-r (a && b) c h)
-
-quadruple : (a b c d : Bool) → T (a && b && c && d) → T a × T b × T c × T d
-quadruple a b c d h =
-    let abc = triple a b c (and-l (a && b && c) d h) in
-    (abc .0, abc .1, abc .2, and-r (a && b && c) d h)
-
 module _ (test : Float → Bool) where
   pub three-each : (v : List Float) → T (ofThree test v) → (j : ℕ) → j < 3 → T (test (at v j))
-  three-each v h zero l = triple (test (at v 0)) (test (at v 1)) (test (at v 2)) h .0
-  three-each v h (suc zero) l = triple (test (at v 0)) (test (at v 1)) (test (at v 2)) h .1
-  three-each v h (suc (suc zero)) l = triple (test (at v 0)) (test (at v 1)) (test (at v 2)) h .2
+  three-each v h zero l = all-three (test (at v 0)) (test (at v 1)) (test (at v 2)) h .0
+  three-each v h (suc zero) l = all-three (test (at v 0)) (test (at v 1)) (test (at v 2)) h .1
+  three-each v h (suc (suc zero)) l = all-three (test (at v 0)) (test (at v 1)) (test (at v 2)) h .2
   three-each v h (suc (suc (suc j))) l = absurd (omega arith)
 
   pub twelve-each : (x : List (List Float)) → T (ofTwelve test x) → Each test x
@@ -69,7 +35,7 @@ module _ (test : Float → Bool) where
       row i = ofThree test (col x i)
 
       all : T (row 0) × T (row 1) × T (row 2) × T (row 3)
-      all = quadruple (row 0) (row 1) (row 2) (row 3) h
+      all = all-four (row 0) (row 1) (row 2) (row 3) h
 
       go : Each test x
       go zero j k l = three-each (col x 0) (all .0) j l
@@ -93,7 +59,7 @@ bound-real x h = within-real 20 x (in-bound x h)
 
 three-real : (v : List Float) → T (ofThree inBound v) → T (ofThree isFinite v)
 three-real v h =
-    let t = triple (inBound (at v 0)) (inBound (at v 1)) (inBound (at v 2)) h in
+    let t = all-three (inBound (at v 0)) (inBound (at v 1)) (inBound (at v 2)) h in
     and-i (isFinite (at v 0) && isFinite (at v 1)) (isFinite (at v 2))
     (and-i (isFinite (at v 0)) (isFinite (at v 1)) (bound-real (at v 0) (t .0)) (bound-real (at v 1) (t .1)))
     (bound-real (at v 2) (t .2))
@@ -103,7 +69,7 @@ unfolding boundedPoints finitePoints
 points-real x h =
     let range : ℕ → Bool = λ i. ofThree inBound (col x i) in
     let real : ℕ → Bool = λ i. ofThree isFinite (col x i) in
-    let q = quadruple (range 0) (range 1) (range 2) (range 3) h in
+    let q = all-four (range 0) (range 1) (range 2) (range 3) h in
     and-i (real 0 && real 1 && real 2) (real 3)
     (and-i (real 0 && real 1) (real 2)
     (and-i (real 0) (real 1) (three-real (col x 0) (q .0)) (three-real (col x 1) (q .1)))
@@ -125,7 +91,7 @@ limits-real l h =
     let c = l .clearance in
     let t = l .«max_t» in
     let u = l .«u_max» in
-    let q = quadruple (zeroToBound o) (zeroToBound c) (zeroToOne t) (speedRange u) h in
+    let q = all-four (zeroToBound o) (zeroToBound c) (zeroToOne t) (speedRange u) h in
     and-i (isFinite o && isFinite c && isFinite t) (isFinite u)
     (and-i (isFinite o && isFinite c) (isFinite t)
     (and-i (isFinite o) (isFinite c) (within-real 20 o (zero-to-bound o (q .0) .1))
@@ -156,9 +122,9 @@ module _ (x dx : List (List Float)) (split : ℕ) (l : Limits) where
   unfolding walkRefusal rangedLimits
   walk-admits e =
       let r = refusal-none (finiteWalk x dx l) (rangedWalk x dx split l) e .1 in
-      let q = quadruple (boundedPoints x) (boundedPoints dx) (rangedLimits l) (isSplit split) r in
+      let q = all-four (boundedPoints x) (boundedPoints dx) (rangedLimits l) (isSplit split) r in
       let p =
-      quadruple (zeroToBound (l .offset)) (zeroToBound (l .clearance)) (zeroToOne (l .«max_t»))
+      all-four (zeroToBound (l .offset)) (zeroToBound (l .clearance)) (zeroToOne (l .«max_t»))
       (speedRange (l .«u_max»)) (q .2)
       in
       record {
@@ -173,7 +139,7 @@ module _ (x dx : List (List Float)) (split : ℕ) (l : Limits) where
 
   pub walk-real : T (rangedWalk x dx split l) → T (finiteWalk x dx l)
   walk-real h =
-      let q = quadruple (boundedPoints x) (boundedPoints dx) (rangedLimits l) (isSplit split) h in
+      let q = all-four (boundedPoints x) (boundedPoints dx) (rangedLimits l) (isSplit split) h in
       and-i (finitePoints x && finitePoints dx) (finiteLimits l)
       (pair-real x dx (and-i (boundedPoints x) (boundedPoints dx) (q .0) (q .1))) (limits-real l (q .2))
 
@@ -228,7 +194,7 @@ module _ (x : List (List Float)) where
   time-admits dx t e =
       let f = finitePoints x && finitePoints dx && isFinite t in
       let r = boundedPoints x && boundedPoints dx && zeroToOne t in
-      triple (boundedPoints x) (boundedPoints dx) (zeroToOne t) (refusal-none f r e .1)
+      all-three (boundedPoints x) (boundedPoints dx) (zeroToOne t) (refusal-none f r e .1)
 
 pub ratio-admits : (p q : List Float) (s : Float) → ratioRefusal p q s ≡ 0
     → T (ofThree inBound p) × T (ofThree inBound q) × T (zeroToOne s)
@@ -236,4 +202,4 @@ unfolding ratioRefusal
 ratio-admits p q s e =
     let f = ofThree isFinite p && ofThree isFinite q && isFinite s in
     let r = ofThree inBound p && ofThree inBound q && zeroToOne s in
-    triple (ofThree inBound p) (ofThree inBound q) (zeroToOne s) (refusal-none f r e .1)
+    all-three (ofThree inBound p) (ofThree inBound q) (zeroToOne s) (refusal-none f r e .1)

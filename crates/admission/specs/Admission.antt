@@ -1,17 +1,13 @@
 -- What is handed over is admitted, or refused by a number (docs/01-scope.md, "What callers hand over, and the numbers
 -- allowed", "Refusal numbers"). Definitions only.
 use Prim.Native.Nat.{ℕ}
-use mathlib.Core.Bool.{Bool, cond, _&&_, _||_}
+use mathlib.Core.Bool.{Bool, _&&_, _||_}
 use mathlib.Core.List.{List}
 use lib.Dec.{eqb}
 use lib.Ieee.{Float}
-use Rattle.number.specs.Number.{isFinite, inBound, zeroToBound, zeroToOne, speedRange}
+use Rattle.number.specs.Number.{isFinite, inBound, zeroToBound, zeroToOne, speedRange, refusal}
 use Rattle.geometry.specs.Geometry.{at, col}
 use Rattle.admission.specs.declared.Limits.{Limits}
-
--- 1 where some number is not finite, else 2 where something lies beyond its range, else 0: admitted
-abbrev pub refusal : Bool → Bool → ℕ
-refusal finite ranged = cond finite (cond ranged 0 2) 1
 
 -- a test passed by the three numbers of a point, by the twelve of four points
 abbrev pub ofThree : (Float → Bool) → List Float → Bool

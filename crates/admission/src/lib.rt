@@ -8,6 +8,7 @@ use crate::points::points_in_bound;
 use crate::points::three_finite;
 use crate::points::three_in_bound;
 use number::range;
+use number::range::verdict;
 
 // The numbers of points.
 pub mod points;
@@ -19,17 +20,6 @@ pub struct Limits {
     pub clearance: f32,
     pub max_t: f32,
     pub u_max: f32,
-}
-
-// 1 before 2 before 0.
-fn verdict(finite: bool, ranged: bool) -> u32
-    ensures { λ r. ⌜ r ≡ Def.refusal finite ranged ⌝ }
-{
-    if finite {
-        if ranged { 0 } else { 2 }
-    } else {
-        1
-    }
 }
 
 // Two points against two, or three against one.

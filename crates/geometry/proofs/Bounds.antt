@@ -4,14 +4,19 @@ use Prim.Native.Nat.{ℕ, zero, suc, _+_, _≤_, _<_}
 use native.Mathlib.Nat.{zero-add, add-zero}
 use native.Mathlib.Omega.{arith}
 use mathlib.Core.Path.{subst}
+use mathlib.Core.Bool.{Bool}
 use mathlib.Core.List.{List}
-use lib.Dec.{lit<, lit≤}
+use lib.Dec.{T, lit<, lit≤}
 use lib.Ieee.{Float, ofBits, binary32}
 use Rattle.number.specs.Number.{_⊕_, _⊖_, _⊗_}
 use Rattle.number.proofs.Within.{Within, within-more, add-within, sub-within, mul-within}
 use Rattle.number.proofs.Within as W
 use Rattle.number.proofs.Ranges.{bits-within}
-use Rattle.geometry.specs.Geometry.{at, col, vec, minus, dot, along, lerpOf, columns, moved, quarter, centre, centred, times, scaled}
+use Rattle.geometry.specs.Geometry.{at, col, vec, minus, dot, along, lerpOf, columns, moved, centreOf, centred, times, scaled}
+
+-- each number of four points passes a test
+abbrev pub Each : (Float → Bool) → List (List Float) → Type 0
+Each test x = (i j : ℕ) → i < 4 → j < 3 → T (test (at (col x i) j))
 
 -- each of the three numbers; each number of each of the four columns
 abbrev pub VecWithin : ℕ → List Float → Type 0
@@ -26,13 +31,12 @@ vec-within a p q r hp hq hr (suc zero) l = hq
 vec-within a p q r hp hq hr (suc (suc zero)) l = hr
 vec-within a p q r hp hq hr (suc (suc (suc j))) l = absurd (omega arith)
 
-columns-within : (a : ℕ) (p q r s : List Float) → VecWithin a p → VecWithin a q → VecWithin a r → VecWithin a s
-    → PointsWithin a (columns p q r s)
-columns-within a p q r s hp hq hr hs zero j k l = hp j l
-columns-within a p q r s hp hq hr hs (suc zero) j k l = hq j l
-columns-within a p q r s hp hq hr hs (suc (suc zero)) j k l = hr j l
-columns-within a p q r s hp hq hr hs (suc (suc (suc zero))) j k l = hs j l
-columns-within a p q r s hp hq hr hs (suc (suc (suc (suc i)))) j k l = absurd (omega arith)
+columns-within : (a : ℕ) (f : ℕ → List Float) → ((i : ℕ) → i < 4 → VecWithin a (f i)) → PointsWithin a (columns f)
+columns-within a f h zero j k l = h 0 k j l
+columns-within a f h (suc zero) j k l = h 1 k j l
+columns-within a f h (suc (suc zero)) j k l = h 2 k j l
+columns-within a f h (suc (suc (suc zero))) j k l = h 3 k j l
+columns-within a f h (suc (suc (suc (suc i)))) j k l = absurd (omega arith)
 
 pub col-within : (a i : ℕ) (x : List (List Float)) → i < 4 → PointsWithin a x → VecWithin a (col x i)
 col-within a i x k h j l = h i j k l
@@ -77,7 +81,7 @@ lerp-within a p0 p1 s l h k m =
 pub moved-within : (a : ℕ) (x dx : List (List Float)) (t : Float) → suc a ≤ 127 → PointsWithin a x → PointsWithin a dx
     → Within 0 t → PointsWithin (suc a) (moved x dx t)
 moved-within a x dx t l h k m =
-    columns-within (suc a) _ _ _ _ (one 0 (lit< tt)) (one 1 (lit< tt)) (one 2 (lit< tt)) (one 3 (lit< tt))
+    columns-within (suc a) (λ i. along (col x i) t (col dx i)) one
   where
     one : (i : ℕ) → i < 4 → VecWithin (suc a) (along (col x i) t (col dx i))
     one i n = along-within a (col x i) t (col dx i) l (col-within a i x n h) m (col-within a i dx n k)
@@ -85,7 +89,7 @@ moved-within a x dx t l h k m =
 pub scaled-within : (a b : ℕ) (x : List (List Float)) (s : Float) → a + b ≤ 127 → PointsWithin a x → Within b s
     → PointsWithin (a + b) (scaled x s)
 scaled-within a b x s l h k =
-    columns-within (a + b) _ _ _ _ (one 0 (lit< tt)) (one 1 (lit< tt)) (one 2 (lit< tt)) (one 3 (lit< tt))
+    columns-within (a + b) (λ i. times (col x i) s) one
   where
     one : (i : ℕ) → i < 4 → VecWithin (a + b) (times (col x i) s)
     one i n = vec-within (a + b) _ _ _ (number 0 (lit< tt)) (number 1 (lit< tt)) (number 2 (lit< tt))
@@ -94,6 +98,9 @@ scaled-within a b x s l h k =
         number j m = mul-within a b (at (col x i) j) s l (h i j n m) k
 
 -- a quarter of the sum of four
+abbrev quarter : Float → Float → Float → Float → Float
+quarter p q r s = (p ⊕ q ⊕ r ⊕ s) ⊗ ofBits binary32 0x3e80_0000
+
 quarter-within : (a : ℕ) (p q r s : Float) → suc (suc (suc a)) ≤ 127 → Within a p → Within a q → Within a r
     → Within a s → Within (suc (suc (suc a))) (quarter p q r s)
 quarter-within a p q r s l hp hq hr hs =
@@ -111,8 +118,7 @@ quarter-within a p q r s l hp hq hr hs =
 pub centred-within : (a : ℕ) (x : List (List Float)) → suc (suc (suc (suc a))) ≤ 127 → PointsWithin a x
     → PointsWithin (suc (suc (suc (suc a)))) (centred x)
 centred-within a x l h =
-    columns-within (suc (suc (suc (suc a)))) _ _ _ _
-    (one 0 (lit< tt)) (one 1 (lit< tt)) (one 2 (lit< tt)) (one 3 (lit< tt))
+    columns-within (suc (suc (suc (suc a)))) (λ i. minus (col x i) centre) one
   where
     middle : (j : ℕ) → j < 3
         → Within (suc (suc (suc a))) (quarter (at (col x 0) j) (at (col x 1) j) (at (col x 2) j) (at (col x 3) j))
@@ -120,8 +126,11 @@ centred-within a x l h =
         quarter-within a _ _ _ _ (omega arith)
         (h 0 j (lit< tt) m) (h 1 j (lit< tt) m) (h 2 j (lit< tt) m) (h 3 j (lit< tt) m)
 
-    one : (i : ℕ) → i < 4 → VecWithin (suc (suc (suc (suc a)))) (minus (col x i) (centre x))
+    centre : List Float
+    centre = centreOf (col x 0) (col x 1) (col x 2) (col x 3)
+
+    one : (i : ℕ) → i < 4 → VecWithin (suc (suc (suc (suc a)))) (minus (col x i) centre)
     one i n =
-        minus-within (suc (suc (suc a))) (col x i) (centre x) l
+        minus-within (suc (suc (suc a))) (col x i) centre l
         (vec-more a (suc (suc (suc a))) (col x i) (omega arith) (col-within a i x n h))
         (vec-within (suc (suc (suc a))) _ _ _ (middle 0 (lit< tt)) (middle 1 (lit< tt)) (middle 2 (lit< tt)))

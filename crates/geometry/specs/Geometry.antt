@@ -3,8 +3,7 @@
 -- pair the list of their four columns. Sums of three go left to right. Definitions only.
 use Prim.Native.Nat.{ℕ, zero, suc, _-_}
 use mathlib.Core.List.{List, [], _∷_, map, flatMap}
-use lib.ListN.{getD}
-use lib.Ieee.{Float, nan, binary32, ofBits}
+use lib.{ListN.getD, Ieee.Float, Ieee.nan, Ieee.binary32, Ieee.ofBits}
 use Rattle.number.specs.Number.{_⊕_, _⊖_, _⊗_}
 
 -- number i of a vector, column i of four points
@@ -39,39 +38,30 @@ abbrev pub lerpOf : List Float → List Float → Float → List Float
 lerpOf p0 p1 s = along p0 s (minus p1 p0)
 
 -- ---- four points as a whole: moved, centred, scaled
-abbrev pub columns : List Float → List Float → List Float → List Float → List (List Float)
-columns a b c d = a ∷ b ∷ c ∷ d ∷ []
+abbrev pub columns : (ℕ → List Float) → List (List Float)
+columns f = f 0 ∷ f 1 ∷ f 2 ∷ f 3 ∷ []
 
 -- the points at time t: each column plus t times its displacement
 abbrev pub moved : List (List Float) → List (List Float) → Float → List (List Float)
-moved x dx t =
-    columns (along (col x 0) t (col dx 0)) (along (col x 1) t (col dx 1)) (along (col x 2) t (col dx 2))
-    (along (col x 3) t (col dx 3))
+moved x dx t = columns (λ i. along (col x i) t (col dx i))
 
--- a quarter of the sum of four
-abbrev pub quarter : Float → Float → Float → Float → Float
-quarter a b c d = (a ⊕ b ⊕ c ⊕ d) ⊗ ofBits binary32 0x3e80_0000
-
+-- a quarter of the sum of four vectors
 abbrev pub centreOf : List Float → List Float → List Float → List Float → List Float
 centreOf a b c d =
-    vec (quarter (at a 0) (at b 0) (at c 0) (at d 0)) (quarter (at a 1) (at b 1) (at c 1) (at d 1))
-    (quarter (at a 2) (at b 2) (at c 2) (at d 2))
-
-abbrev pub centre : List (List Float) → List Float
-centre x = centreOf (col x 0) (col x 1) (col x 2) (col x 3)
+    let quarter : ℕ → Float = λ k. (at a k ⊕ at b k ⊕ at c k ⊕ at d k) ⊗ ofBits binary32 0x3e80_0000 in
+    vec (quarter 0) (quarter 1) (quarter 2)
 
 -- each column minus the centre
 abbrev pub centred : List (List Float) → List (List Float)
 centred x =
-    columns (minus (col x 0) (centre x)) (minus (col x 1) (centre x)) (minus (col x 2) (centre x))
-    (minus (col x 3) (centre x))
+    let centre = centreOf (col x 0) (col x 1) (col x 2) (col x 3) in columns (λ i. minus (col x i) centre)
 
 -- each of the twelve numbers times s
 abbrev pub times : List Float → Float → List Float
 times v s = vec (at v 0 ⊗ s) (at v 1 ⊗ s) (at v 2 ⊗ s)
 
 abbrev pub scaled : List (List Float) → Float → List (List Float)
-scaled x s = columns (times (col x 0) s) (times (col x 1) s) (times (col x 2) s) (times (col x 3) s)
+scaled x s = columns (λ i. times (col x i) s)
 
 -- ---- the two sides of a split
 -- the n numbers from i on

@@ -6,18 +6,19 @@ use mathlib.Core.Logic.{_↔_}
 use mathlib.Core.Bool.{Bool, true, false, not, _&&_}
 use mathlib.Core.List.{List}
 use Prim.Native.Nat.{ℕ, _<_}
-use lib.Dec.{T, lit≤, lit<}
+use lib.Dec.{T, T-not, lit≤, lit<}
 use lib.Ieee.{Float, ofBits}
 use Rattle.number.specs.Number.{_⊕_, _⊖_, _⊗_, zero32, one32, isFinite}
 use Rattle.number.proofs.Within.{Within, within-more, add-within, sub-within, mul-within}
 use Rattle.number.specs.Number as Answer
-use Rattle.number.proofs.Answers.{refused, admitted-keeps}
+use Rattle.number.proofs.Answers.{refusal-first, refused, admitted-keeps}
 use Rattle.geometry.specs.Geometry.{at, col, triple}
 use Rattle.geometry.proofs.Bounds.{VecWithin, minus-within, col-within}
 use Rattle.polynomial_root.specs.declared.answer.Roots.{Roots}
 use Rattle.polynomial_root.specs.declared.cubic.Cubic.{Cubic}
 use Rattle.polynomial_root.specs.Quadratic as Made
-use Rattle.polynomial_root.specs.Finder.{finiteCubic, allowedCubic, admitted, cubicRootsInRange}
+use Rattle.polynomial_root.specs.Finder.{cubicRefusal, cubicRootsInRange}
+use Rattle.polynomial_root.proofs.Admitted.{finiteCubic, rangedCubic}
 use Rattle.polynomial_root.specs.Cubic.{cubicRoots}
 use Rattle.admission.specs.Admission.{finitePoints, boundedPoints, motionRefusal}
 use Rattle.admission.proofs.Admitted.{within-real, points-within, motion-admits, motion-first}
@@ -88,14 +89,12 @@ volume-finite x1 x2 x3 v1 v2 v3 hx1 hx2 hx3 hv1 hv2 hv3 =
 finite-not-one : (p : Cubic) (t epsilon : Float) → T (finiteCubic p t epsilon)
     → cubicRootsInRange p t epsilon .refusal ≡ 1 → ⊥
 unfolding cubicRootsInRange
-finite-not-one p t epsilon = go (finiteCubic p t epsilon) (allowedCubic p t epsilon)
-  where
-    go : (a b : Bool) → T a → admitted a b (cubicRoots p t epsilon) .refusal ≡ 1 → ⊥
-    go true true h e =
-        cubic-refusal (λ n. n ≡ 1 → ⊥) (λ e. omega arith) (λ e. omega arith) (λ e. omega arith) (λ e. omega arith)
-        p t epsilon e
-    go true false h e = omega arith
-    go false b h e = absurd h
+finite-not-one p t epsilon h =
+    let n = cubicRefusal p t epsilon in
+    admitted-keeps (λ (r : Roots). r .refusal ≡ 1 → ⊥) n (cubicRoots p t epsilon) (Made.refused n)
+    (λ z. cubic-refusal (λ n. n ≡ 1 → ⊥) (λ e. omega arith) (λ e. omega arith) (λ e. omega arith) (λ e. omega arith)
+    p t epsilon)
+    (λ e. T-not (finiteCubic p t epsilon) (refusal-first (finiteCubic p t epsilon) (rangedCubic p t epsilon) .0 e) h)
 
 module _ (x dx : List (List Float)) where
   pub coefficients-finite : motionRefusal x dx ≡ 0 → T (finiteCubic (motionCubic x dx) one32 zero32)

@@ -12,14 +12,14 @@ use lib.Ieee.{Float, fin, binary32, up, down, round, div, lt, fits, ofBits}
 use lib.Ieee.Fits.{mul-fits, down-pos}
 use Rattle.number.specs.Number.{_⊗_, _⊘_, zero32, one32, isFinite}
 use Rattle.number.proofs.Rounding.{rnd, Rep, rnd-fix}
-use Rattle.number.proofs.Units.{Top, plus, of-float, same-float}
+use Rattle.number.proofs.Units.{Top, plus, of-float, same-float, zero-is}
 use Rattle.number.proofs.Units.Compared.{L, Is, lt-says}
 use Rattle.number.proofs.Sums.Rounded.{round-at, to-is, round-units}
 use Rattle.number.proofs.Products.{mul-is}
 use Rattle.number.proofs.Comparing.{lt-le}
 use Rattle.number.proofs.Finite.{is-finite}
 use Rattle.motion.specs.declared.factors.Factors.{Factors}
-use Rattle.motion.specs.Scaling.{eight32, eighths, factorsOf}
+use Rattle.motion.specs.Scaling.{eight32, eighths, mostEights, factorsOf}
 use Rattle.motion.proofs.Eighths.{eighths-turn, eighths-stop}
 
 -- a positive number of units has the sign plus
@@ -106,11 +106,11 @@ next-power n = ap (λ (k : ℕ). 2 ^ k) (three n) ∙ pow-add 2 3 (3 * n)
     three : (n : ℕ) → 3 * suc n ≡ 3 + 3 * n
     three n = omega arith
 
-power-under : (n : ℕ) → n < 42 → 2 ^ (3 * suc n) * L < Top
+power-under : (n : ℕ) → n < mostEights → 2 ^ (3 * suc n) * L < Top
 power-under n h =
     subst (λ (k : ℕ). k < Top) (pow-add 2 (3 * suc n) 149) (pow-lt {i = 3 * suc n + 149} {j = 277} (room n h))
   where
-    room : (n : ℕ) → n < 42 → 3 * suc n + 149 < 277
+    room : (n : ℕ) → n < mostEights → 3 * suc n + 149 < 277
     room n h = omega arith
 
 -- an f32 of u units
@@ -128,7 +128,7 @@ module _ (u : ℕ) (r : Rep u) (t : u < Top) where
       eightfold : (w : ℕ) → w ≤ w * 8
       eightfold w = omega arith
 
-  whole-next : (n : ℕ) (f p : Float) → n < 42 → Whole u n f p → T (lt eight32 f)
+  whole-next : (n : ℕ) (f p : Float) → n < mostEights → Whole u n f p → T (lt eight32 f)
       → Whole u (suc n) (f ⊘ eight32) (p ⊗ eight32)
   whole-next n f p h k above =
       let v = k .v in
@@ -152,7 +152,7 @@ module _ (u : ℕ) (r : Rep u) (t : u < Top) where
   ended : (n : ℕ) (f p : Float) → Whole u n f p → Are u (p ⊗ f)
   ended n f p k = (power-is (3 * n) p f (k .v) u (k .product) (k .is) (k .all) r t, mul-fits binary32 p f)
 
-  product-are : (k n : ℕ) (f p : Float) → n + k ≡ 42 → Whole u n f p → Are u (eighths k n f p .product)
+  product-are : (k n : ℕ) (f p : Float) → n + k ≡ mostEights → Whole u n f p → Are u (eighths k n f p .product)
   unfolding eighths
   product-are zero n f p e h = ended n f p h
   product-are (suc k) n f p e h =
@@ -168,10 +168,6 @@ module _ (u : ℕ) (r : Rep u) (t : u < Top) where
       go false above stays rest =
           subst (λ (s : Factors). Are u (s .product)) (sym (eighths-stop (suc k) n f p (stays tt))) (ended n f p h)
 
-zero-is : Is zero32 0
-unfolding ofBits
-zero-is = refl
-
 pub product-exact : (f : Float) → T (fits binary32 f) → T (isFinite f) → T (lt zero32 f) → factorsOf f .product ≡ f
 unfolding factorsOf
 product-exact f h k a =
@@ -181,6 +177,6 @@ product-exact f h k a =
     let whole : Whole u 0 f one32 =
     record { v = u; is = d .1 .is; rep = d .1 .rep; product = one-is; all = mul-one u }
     in
-    let r = product-are u (d .1 .rep) (d .1 .under) 42 0 f one32 refl whole in
+    let r = product-are u (d .1 .rep) (d .1 .under) mostEights 0 f one32 refl whole in
     let p = factorsOf f .product in
     same-float p f u (r .1) h (units-plus p u (r .0) some) (units-plus f u (d .1 .is) some) (r .0) (d .1 .is)

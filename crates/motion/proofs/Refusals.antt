@@ -1,7 +1,7 @@
 -- The roots of a cubic, once its numbers are admitted, are refused by 6, 7 or 8, or not at all. Assumes nothing.
 use Prim.Native.Nat.{ℕ, zero, suc}
 use mathlib.Core.Path.{sym, subst}
-use mathlib.Core.Bool.{Bool, true, false, cond, _&&_}
+use mathlib.Core.Bool.{Bool, true, false, cond, _&&_, _||_}
 use lib.Dec.{eqb}
 use lib.Ieee.{Float, lt, le, eq}
 use Rattle.number.specs.Number.{_⊖_, _⊗_, _⊘_, zero32, size, smaller, larger, between}
@@ -13,7 +13,7 @@ use Rattle.polynomial_root.specs.declared.quadratic.Solved.{Solved}
 use Rattle.polynomial_root.specs.declared.quadratic.Solved.the-variants.{Neither, Both}
 use Rattle.polynomial_root.specs.declared.span.End.{End}
 use Rattle.polynomial_root.specs.Quadratic.{none, refused, push, two32, solved}
-use Rattle.polynomial_root.specs.Cubic.{three32, valueAt, stepped, flat, descend, endAt, oneSided, bothZero, secant, started, spanRoot, vanishes, constantRoots, opposite, linearRoots, keep, keptRoots, lowerRoots, joined, after, start, firstSpan, middleSpan, lastSpan, spanRoots, cubicRoots}
+use Rattle.polynomial_root.specs.Cubic.{three32, valueAt, slopeAt, stepped, bothZero, descend, newtonSteps, endAt, started, spanRoot, vanishes, opposite, linearRoots, keep, keptRoots, lowerRoots, joined, after, start, spanRoots, cubicRoots}
 use Rattle.polynomial_root.proofs.Places.{push-refusal}
 
 -- a property of the number 0, for no refusal, and of 6, 7 and 8
@@ -35,7 +35,7 @@ module _ (P : ℕ → Type 0) (p0 : P 0) (p6 : P 6) (p7 : P 7) (p8 : P 8) where
     unfolding descend
     descend-has zero r = tt
     descend-has (suc k) r =
-        go (lt (size (valueAt p r)) epsilon) (flat p r) (descend-has k (stepped p t r))
+        go (lt (size (valueAt p r)) epsilon) (bothZero (valueAt p r) (slopeAt p r)) (descend-has k (stepped p t r))
       where
         go : (b c : Bool) → Found-has (descend p t epsilon k (stepped p t r))
             → Found-has (cond b (Root r) (cond c (Refused 8) (descend p t epsilon k (stepped p t r))))
@@ -46,17 +46,20 @@ module _ (P : ℕ → Type 0) (p0 : P 0) (p6 : P 6) (p7 : P 7) (p8 : P 8) where
     span-has : (a b : End) → Found-has (spanRoot p t epsilon a b)
     unfolding spanRoot started
     span-has a b =
-        go (oneSided (a .f) (b .f)) (eq (a .x) (b .x)) (eq (a .f) zero32) (bothZero (a .f) (b .f))
-        (between zero32 t (secant a b))
+        go ((lt (a .f) zero32 && lt (b .f) zero32) || (lt zero32 (a .f) && lt zero32 (b .f))) (eq (a .x) (b .x))
+        (eq (a .f) zero32) (bothZero (a .f) (b .f)) (between zero32 t guess)
       where
+        guess : Float
+        guess = (a .f ⊗ b .x ⊖ b .f ⊗ a .x) ⊘ (a .f ⊖ b .f)
+
         go : (k l m n o : Bool)
             → Found-has (cond k Nothing (cond l (cond m (Root (a .x)) Nothing) (cond n (Refused 6)
-            (cond o (descend p t epsilon 20 (secant a b)) (Refused 7)))))
+            (cond o (descend p t epsilon newtonSteps guess) (Refused 7)))))
         go true l m n o = tt
         go false true true n o = tt
         go false true false n o = tt
         go false false m true o = p6
-        go false false m false true = descend-has 20 (secant a b)
+        go false false m false true = descend-has newtonSteps guess
         go false false m false false = p7
 
     maybe-has : (b : Bool) (f : Found) → Found-has f → Found-has (cond b f Nothing)
@@ -78,7 +81,7 @@ module _ (P : ℕ → Type 0) (p0 : P 0) (p6 : P 6) (p7 : P 7) (p8 : P 8) where
         go false = h
 
     spans-has : (s : Solved) → Has (spanRoots p t epsilon s)
-    unfolding spanRoots firstSpan middleSpan lastSpan
+    unfolding spanRoots
     spans-has Neither = after-has none _ p0 (span-has (start p) (endAt p t))
     spans-has (Both e0 e1) =
         after-has _ _
@@ -89,8 +92,7 @@ module _ (P : ℕ → Type 0) (p0 : P 0) (p6 : P 6) (p7 : P 7) (p8 : P 8) where
         (maybe-has (le e1 t) _ (span-has (endAt p (larger zero32 e1)) (endAt p t)))
 
   -- ---- degree two at most
-  constant-has : (c0 : Float) → Has (constantRoots c0)
-  unfolding constantRoots
+  constant-has : (c0 : Float) → Has (cond (vanishes c0) (push none zero32) none)
   constant-has c0 = go (vanishes c0)
     where
       go : (b : Bool) → Has (cond b (push none zero32) none)
@@ -126,7 +128,9 @@ module _ (P : ℕ → Type 0) (p0 : P 0) (p6 : P 6) (p7 : P 7) (p8 : P 8) where
       two : Roots
       two = keptRoots t (solved (p .c0) (p .c1) (p .c2))
 
-      go : (k l : Bool) → Has (cond k (cond l (constantRoots (p .c0)) (linearRoots (p .c0) (valueAt p t))) two)
+      go : (k l : Bool)
+          → Has (cond k (cond l (cond (vanishes (p .c0)) (push none zero32) none)
+          (linearRoots (p .c0) (valueAt p t))) two)
       go true true = constant-has (p .c0)
       go true false = linear-has (p .c0) (valueAt p t)
       go false l = kept-has t (solved (p .c0) (p .c1) (p .c2))

@@ -12,7 +12,7 @@ use Rattle.number.specs.Number.{zero32, isFinite, admitted}
 use Rattle.number.specs.declared.answer.Answered.{Answered}
 use Rattle.number.proofs.Answers.{taken, refused, clauses}
 use Rattle.motion.specs.declared.record.Pair.{Pair}
-use Rattle.motion.specs.Scaling.{maxEntry, usable, firstFactor, factorsFor, scaledPair, finitePair, pairRefusal, scalingRefusal, scalingOf, leaves, Scales}
+use Rattle.motion.specs.Scaling.{maxEntry, usable, mostEights, firstFactor, factorsFor, scaledPair, finitePair, pairRefusal, scalingRefusal, scalingOf, leaves, Scales}
 use Rattle.motion.proofs.Eighths.{Ended, factors-end}
 use Rattle.motion.proofs.Exact.{product-exact}
 
@@ -55,8 +55,8 @@ module _ (p : Pair) (t : Float) where
     pub factor-exact : factorsFor p t .product ≡ firstFactor p t
     factor-exact = product-exact (firstFactor p t) (first-fits p t) (factor-usable .0) (factor-usable .1)
 
-    -- at most 42 factors of 8, and a last one of at most 8
-    pub factors-few : Ended 42 (factorsFor p t)
+    -- few factors of 8, and a last one of at most 8
+    pub factors-few : Ended mostEights (factorsFor p t)
     factors-few = factors-end (firstFactor p t) (first-fits p t) (factor-usable .0)
 
 -- the promises of a scaling, from what it answers and what it leaves

@@ -3,13 +3,10 @@
 use Prim.Native.Nat.{ℕ}
 use mathlib.Core.List.{List}
 use lib.Ieee.{Float}
-use Rattle.number.specs.Number.{_⊕_, zero32, one32, admitted}
+use Rattle.number.specs.Number.{_⊕_, zero32, one32}
 use Rattle.geometry.specs.Geometry.{col, minus, triple}
-use Rattle.polynomial_root.specs.declared.answer.Roots.{Roots}
-use Rattle.polynomial_root.specs.declared.cubic.Cubic.{Cubic}
-use Rattle.polynomial_root.specs.Cubic.{cubicOf}
-use Rattle.polynomial_root.specs.Quadratic.{refused}
-use Rattle.polynomial_root.specs.Finder.{cubicRootsInRange}
+use Rattle.polynomial_root.specs.{Quadratic.orRefused, Cubic.cubicOf, Finder.cubicRootsInRange}
+use Rattle.polynomial_root.specs.declared.{answer.Roots.Roots, cubic.Cubic.Cubic}
 use Rattle.admission.specs.Admission.{motionRefusal}
 
 -- the volume spanned by three edges x1, x2, x3 that move by v1, v2, v3, as a cubic of the time
@@ -27,5 +24,4 @@ motionCubic x dx = volume (edge x 1) (edge x 2) (edge x 3) (edge dx 1) (edge dx 
 
 -- the roots of that cubic in 0..1, with epsilon 0; a coefficient beyond the bound is refused by 2
 unfoldable pub coplanarTimes : List (List Float) → List (List Float) → Roots
-coplanarTimes x dx =
-    admitted (motionRefusal x dx) (cubicRootsInRange (motionCubic x dx) one32 zero32) (refused (motionRefusal x dx))
+coplanarTimes x dx = orRefused (motionRefusal x dx) (cubicRootsInRange (motionCubic x dx) one32 zero32)

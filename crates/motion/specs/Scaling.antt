@@ -1,19 +1,15 @@
 -- Scaling a pair (docs/01-scope.md, "Scaling a pair", "Refusal numbers"; ccd3.rs:
 -- `normalize_centerized_configuration`). Definitions only.
 use Prim.Native.Nat.{ℕ, zero, suc}
+use mathlib.Core.Path.{_≡_}
 use mathlib.Core.Bool.{Bool, true, false, _&&_, cond}
 use mathlib.Core.List.{List, foldl}
-use lib.Ieee.{Float, binary32, lt, ofBits}
+use lib.{Dec.T, Dec.eqb, Ieee.Float, Ieee.binary32, Ieee.lt, Ieee.ofBits}
 use Rattle.number.specs.Number.{_⊕_, _⊗_, _⊘_, zero32, one32, size, larger, isFinite, refusalOf, valueOf, admitted, answered}
+use Rattle.number.specs.declared.answer.Answered.{Answered, the-variants.Refused}
 use Rattle.geometry.specs.Geometry.{at, col, scaled, count}
-use Rattle.motion.specs.declared.factors.Factors.{Factors}
-use mathlib.Core.Path.{_≡_}
-use lib.Dec.{T, eqb}
-use Rattle.number.specs.declared.answer.Answered.{Answered}
-use Rattle.number.specs.declared.answer.Answered.the-variants.{Refused}
-use Rattle.motion.specs.declared.record.Pair.{Pair}
-use Rattle.motion.specs.declared.scaling.Outcome.{Outcome}
 use Rattle.admission.specs.Admission.{finitePoints, timeRefusal}
+use Rattle.motion.specs.declared.{factors.Factors.Factors, record.Pair.Pair, scaling.Outcome.Outcome}
 
 -- ---- the factors
 -- the largest so far, after |x| and |x + t dx| at one place, and at the three places of a column
@@ -39,7 +35,7 @@ usable f = isFinite f && lt zero32 f
 abbrev pub ending : ℕ → Float → Float → Factors
 ending n f product = record { eights = n; last = f; product = product ⊗ f }
 
--- while f > 8, a factor of 8 more and f divided by 8: at most k times. 42 times are enough for any finite f
+-- while f > 8, a factor of 8 more and f divided by 8: at most k times
 unfoldable pub eighths : ℕ → ℕ → Float → Float → Factors
 eighths zero n f product = ending n f product
 eighths (suc k) n f product = elim (lt eight32 f) [
@@ -47,8 +43,12 @@ eighths (suc k) n f product = elim (lt eight32 f) [
   | false ↦ ending n f product
 ]
 
+-- so many are enough for any finite f
+abbrev pub mostEights : ℕ
+mostEights = 42
+
 unfoldable pub factorsOf : Float → Factors
-factorsOf f = eighths 42 0 f one32
+factorsOf f = eighths mostEights 0 f one32
 
 -- every number times 8, n times over
 unfoldable pub eightfold : ℕ → List (List Float) → List (List Float)

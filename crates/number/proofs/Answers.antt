@@ -1,15 +1,44 @@
--- What a refusal number makes of a call: what it gives, what is answered, and the number and the value of the answer.
--- Assumes nothing.
+-- What a verdict says: 0 where every test is passed, 1 just where some number is not finite, 2 just where all are and
+-- something lies beyond its range. And what a refusal number makes of a call: what it gives, what is answered, and the
+-- number and the value of the answer. Assumes nothing.
 use Prim.Native.Nat.{ℕ}
-use mathlib.Core.Path.{_≡_, refl, sym, ap, _∙_}
-use mathlib.Core.Bool.{Bool, true, false, cond}
-use lib.Dec.{eqb}
+use native.Mathlib.Omega.{arith}
+use mathlib.Core.Path.{_≡_, refl, sym, ap, _∙_, subst}
+use mathlib.Core.Logic.{_↔_}
+use mathlib.Core.Bool.{Bool, true, false, not, cond}
+use lib.Dec.{T, eqb}
 use lib.Ieee.{Float}
+use lib.Ieee.Bits.{is-true}
 use borrow.Author.Tests.{eq-eqb, ne-eqb, eqb-true}
-use Rattle.number.specs.Number.{zero32, refusalOf, valueOf, admitted, answered}
+use Rattle.number.specs.Number.{zero32, refusal, refusalOf, valueOf, admitted, answered}
 use Rattle.number.specs.declared.answer.Answered.{Answered}
 use Rattle.number.specs.declared.answer.Answered.the-variants.{Value, Refused}
 
+-- ---- the three numbers of a verdict
+pub refusal-none : (finite ranged : Bool) → refusal finite ranged ≡ 0 → T finite × T ranged
+refusal-none true true e = (tt, tt)
+refusal-none true false e = omega arith
+refusal-none false true e = omega arith
+refusal-none false false e = omega arith
+
+pub refusal-first : (finite ranged : Bool) → (refusal finite ranged ≡ 1) ↔ T (not finite)
+refusal-first true true = (λ e. omega arith, λ n. absurd n)
+refusal-first true false = (λ e. omega arith, λ n. absurd n)
+refusal-first false ranged = (λ e. tt, λ n. refl)
+
+pub refusal-second : (finite ranged : Bool) → (refusal finite ranged ≡ 2) ↔ (T finite × T (not ranged))
+refusal-second true true = (λ e. omega arith, λ n. absurd (n .1))
+refusal-second true false = (λ e. (tt, tt), λ n. refl)
+refusal-second false ranged = (λ e. absurd (omega arith), λ n. absurd (n .0))
+
+-- where what lies in its range is finite: in its range, admitted; beyond it, the verdict on finite numbers alone
+pub ranged-none : (finite ranged : Bool) → (T ranged → T finite) → ranged ≡ true → 0 ≡ refusal finite ranged
+ranged-none finite ranged real e = rw (is-true finite (real (subst T (sym e) tt)), e)
+
+pub ranged-beyond : (finite ranged : Bool) → ranged ≡ false → refusal finite false ≡ refusal finite ranged
+ranged-beyond finite ranged e = rw e
+
+-- ---- what it makes of a call
 -- once a refusal number has been tested: what an admitted call gives, and what a refused one does
 module _ {A : Type 0} (given other : A) where
   pub taken : (n m : ℕ) → m ≡ n → m ≡ 0 → given ≡ admitted n given other

@@ -8,7 +8,7 @@ use native.Mathlib.Omega.{arith}
 use lib.Dec.{T, ltb, eqb, lt→ltb, nltb→le, eqb→eq, eqb-refl}
 use lib.IntN.{ℤ}
 use lib.Ieee.{Float, inf, fin, up, down, lt, le, eq, isNan, below, level}
-use lib.Ieee.Fits.{and-i, eq→eqb}
+use lib.Ieee.Fits.{and-i, and-l, and-r, eq→eqb}
 
 -- ---- tests joined
 pub or-l : (a b : Bool) → T a → T (a || b)
@@ -18,6 +18,15 @@ or-l false b t = absurd t
 pub or-r : (a b : Bool) → T b → T (a || b)
 or-r true b t = tt
 or-r false b t = t
+
+-- the parts of a conjunction
+pub all-three : (a b c : Bool) → T (a && b && c) → T a × T b × T c
+all-three a b c h = let ab = and-l (a && b) c h in (and-l a b ab, and-r a b ab, and-r (a && b) c h)
+
+pub all-four : (a b c d : Bool) → T (a && b && c && d) → T a × T b × T c × T d
+all-four a b c d h =
+    let abc = all-three a b c (and-l (a && b && c) d h) in
+    (abc .0, abc .1, abc .2, and-r (a && b && c) d h)
 
 -- ---- of two values that are no NaN, one is not above the other
 total-nat : (s t : Bool) (a b : ℕ) → T (not (below s a t b)) → T (below t b s a || level t b s a)

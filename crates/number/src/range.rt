@@ -1,5 +1,5 @@
 // The tests of the ranges that a number handed over must lie in (docs/01-scope.md, "The numbers allowed").
-// Both ends are in; minus zero is zero; a NaN lies in none.
+// Both ends are in; minus zero is zero; a NaN lies in none. And the refusal number that the tests of a call give.
 ghost use mathlib.Core.Path.{_≡_};
 ghost use Rattle.number.specs.Number as Def;
 
@@ -43,4 +43,15 @@ pub fn speed_range(x: f32) -> bool
     ensures { λ r. ⌜ r ≡ Def.speedRange x ⌝ }
 {
     (8.673617379884035e-19 <= x) & (x <= 1.152921504606847e18)
+}
+
+// 1 before 2 before 0.
+pub fn verdict(finite: bool, ranged: bool) -> u32
+    ensures { λ r. ⌜ r ≡ Def.refusal finite ranged ⌝ }
+{
+    if finite {
+        if ranged { 0 } else { 2 }
+    } else {
+        1
+    }
 }

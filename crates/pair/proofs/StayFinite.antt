@@ -7,13 +7,13 @@ use mathlib.Core.List.{List}
 use lib.Dec.{T, lit≤, lit<}
 use lib.Ieee.{Float}
 use lib.Ieee.Fits.{and-i}
-use Rattle.number.specs.Number.{zero32, isFinite, inBound, admitted}
+use Rattle.number.specs.Number.{isFinite, inBound, admitted}
 use Rattle.number.proofs.Answers.{taken}
 use Rattle.number.proofs.Ranges.{in-bound, zero-to-bound, zero-to-one}
-use Rattle.geometry.specs.Geometry.{at, col, vec, lerpOf, moved, centred, scaled}
+use Rattle.geometry.specs.Geometry.{at, col, lerpOf, moved, centred, scaled}
 use Rattle.geometry.proofs.Bounds.{VecWithin, PointsWithin, col-within, lerp-within, moved-within, scaled-within, centred-within}
 use Rattle.admission.specs.Admission.{ofThree, ofTwelve, finitePoints, pointsRefusal, factorRefusal, timeRefusal, ratioRefusal}
-use Rattle.pair.specs.Points.{placed, movedInto, centredIn, scaledIn}
+use Rattle.pair.specs.Points.{zeros, placed, movedInto, centredIn, scaledIn}
 use Rattle.admission.proofs.Admitted.{within-real, three-each, points-within, points-admits, factor-admits, time-admits, ratio-admits}
 
 -- three numbers, and twelve, are finite if each is within a power of two
@@ -50,7 +50,7 @@ pub place-finite : (p q : List Float) (s : Float) → ratioRefusal p q s ≡ 0 �
 unfolding placed
 place-finite p q s e =
     let h = ratio-admits p q s e in
-    given (λ (y : List Float). T (ofThree isFinite y)) (ratioRefusal p q s) (lerpOf p q s) (vec zero32 zero32 zero32) e
+    given (λ (y : List Float). T (ofThree isFinite y)) (ratioRefusal p q s) (lerpOf p q s) zeros e
     (three 22 (lerpOf p q s)
     (lerp-within 20 p q s (lit≤ tt) (λ j l. in-bound (at p j) (three-each inBound p (h .0) j l))
     (λ j l. in-bound (at q j) (three-each inBound q (h .1) j l)) (zero-to-one s (h .2) .2)))

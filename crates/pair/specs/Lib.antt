@@ -1,3 +1,2 @@
 -- What the contracts of `pair` cite. Definitions only.
 pub mod Points
-pub mod Norm

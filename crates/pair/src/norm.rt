@@ -5,7 +5,7 @@ ghost use lib.Dec.{T};
 ghost use lib.Ieee.{le};
 ghost use Rattle.number.specs.Number.{zero32, isFinite, refusalOf, valueOf, admitted, answered};
 ghost use Rattle.admission.specs.Admission.{splitRefusal};
-ghost use Rattle.pair.specs.Norm as Def;
+ghost use Rattle.pair.specs.Points as Def;
 use geometry::vec3;
 use number::answer::Answered;
 use number::order;

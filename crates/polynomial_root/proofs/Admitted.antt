@@ -1,53 +1,47 @@
--- The numbers that a caller may hand over, as bounds: what the tests of the ranges say. Assumes nothing.
-use Prim.Native.Nat.{ℕ}
-use mathlib.Core.Bool.{Bool, true, false, _&&_}
+-- The numbers of an admitted call, as bounds. Assumes nothing.
+use mathlib.Core.Path.{_≡_}
+use mathlib.Core.Bool.{Bool, _&&_}
 use lib.Dec.{T}
 use lib.Ieee.{Float}
 use lib.Ieee.Fits.{and-l, and-r}
-use Rattle.number.specs.Number.{inBound, zeroToBound, aboveZeroToOne}
+use Rattle.number.specs.Number.{isFinite, inBound, zeroToBound, aboveZeroToOne}
+use Rattle.number.proofs.Answers.{refusal-none}
+use Rattle.number.proofs.Comparing.{all-three, all-four}
 use Rattle.number.proofs.Within.{Within}
 use Rattle.number.proofs.Ranges.{in-bound, above-zero-to-one}
-use Rattle.polynomial_root.specs.Quadratic.{refused}
-use Rattle.polynomial_root.specs.Finder.{allowedQuadratic, allowedCubic, admitted}
-use Rattle.polynomial_root.specs.declared.answer.Roots.{Roots}
+use Rattle.polynomial_root.specs.Finder.{quadraticRefusal, cubicRefusal}
 use Rattle.polynomial_root.specs.declared.cubic.Cubic.{Cubic}
 use Rattle.polynomial_root.proofs.Spans.{Allowed}
 
--- ---- the tests of a call, taken apart
-three : (a b c : Bool) → T (a && b && c) → T a × T b × T c
-three a b c h = let i = and-l (a && b) c h in (and-l a b i, and-r a b i, and-r (a && b) c h)
-
-five : (a b c d e f : Bool) → T (a && b && c && d && e && f) → T a × T b × T c × T d × T e
-five a b c d e f h =
-    let i = and-l (a && b && c && d && e) f h in
-    let j = and-l (a && b && c && d) e i in
-    let k = and-l (a && b && c) d j in
-    let l = three a b c k in
-    (l .0, l .1, l .2, and-r (a && b && c) d j, and-r (a && b && c && d) e i)
-
-pub allowed-quadratic : (c0 c1 c2 : Float) → T (allowedQuadratic c0 c1 c2) → Within 20 c0 × Within 20 c1 × Within 20 c2
-allowed-quadratic c0 c1 c2 h =
-    let x = three (inBound c0) (inBound c1) (inBound c2) h in
+pub allowed-quadratic : (c0 c1 c2 : Float) → quadraticRefusal c0 c1 c2 ≡ 0
+    → Within 20 c0 × Within 20 c1 × Within 20 c2
+allowed-quadratic c0 c1 c2 e =
+    let h =
+    refusal-none (isFinite c0 && isFinite c1 && isFinite c2) (inBound c0 && inBound c1 && inBound c2) e .1 in
+    let x = all-three (inBound c0) (inBound c1) (inBound c2) h in
     (in-bound c0 (x .0), in-bound c1 (x .1), in-bound c2 (x .2))
 
-pub allowed-cubic : (p : Cubic) (t epsilon : Float) → T (allowedCubic p t epsilon) → Allowed p t
-allowed-cubic p t epsilon h =
-    let x =
-    five (inBound (p .c0)) (inBound (p .c1)) (inBound (p .c2)) (inBound (p .c3)) (aboveZeroToOne t)
-    (zeroToBound epsilon) h in
-    let r = above-zero-to-one t (x .4) in
+-- the finite numbers of a cubic's call, and those in their range
+abbrev pub finiteCubic : Cubic → Float → Float → Bool
+finiteCubic p t epsilon =
+    isFinite (p .c0) && isFinite (p .c1) && isFinite (p .c2) && isFinite (p .c3) && isFinite t && isFinite epsilon
+
+abbrev pub rangedCubic : Cubic → Float → Float → Bool
+rangedCubic p t epsilon =
+    inBound (p .c0) && inBound (p .c1) && inBound (p .c2) && inBound (p .c3) && aboveZeroToOne t && zeroToBound epsilon
+
+pub allowed-cubic : (p : Cubic) (t epsilon : Float) → cubicRefusal p t epsilon ≡ 0 → Allowed p t
+allowed-cubic p t epsilon e =
+    let coefficients = inBound (p .c0) && inBound (p .c1) && inBound (p .c2) && inBound (p .c3) in
+    let h = refusal-none (finiteCubic p t epsilon) (rangedCubic p t epsilon) e .1 in
+    let x = all-three coefficients (aboveZeroToOne t) (zeroToBound epsilon) h in
+    let w = all-four (inBound (p .c0)) (inBound (p .c1)) (inBound (p .c2)) (inBound (p .c3)) (x .0) in
+    let r = above-zero-to-one t (x .1) in
     record {
-      w0 = in-bound (p .c0) (x .0);
-      w1 = in-bound (p .c1) (x .1);
-      w2 = in-bound (p .c2) (x .2);
-      w3 = in-bound (p .c3) (x .3);
+      w0 = in-bound (p .c0) (w .0);
+      w1 = in-bound (p .c1) (w .1);
+      w2 = in-bound (p .c2) (w .2);
+      w3 = in-bound (p .c3) (w .3);
       above = r .0;
       small = r .2;
     }
-
--- ---- what holds of every refusal, and of the answer where its call is admitted, holds of every answer
-pub admitted-keeps : (Q : Roots → Type 0) (f a : Bool) (r : Roots) → ((n : ℕ) → Q (refused n)) → (T a → Q r)
-    → Q (admitted f a r)
-admitted-keeps Q true true r g h = h tt
-admitted-keeps Q true false r g h = g 2
-admitted-keeps Q false a r g h = g 1

@@ -4,11 +4,11 @@ use Prim.Native.Nat.{ℕ}
 use mathlib.Core.Path.{_≡_, refl}
 use mathlib.Core.List.{[], _∷_}
 use lib.Ieee.{Float, binary32, neg, add, sub, mul, div, lt, le, eq, ofBits}
-use Rattle.number.specs.Number.{zero32, half32, one32, size, smaller, larger, clamp, isFinite}
+use Rattle.number.specs.Number.{zero32, half32, one32, size, smaller, larger, clamp, isFinite, written}
 use Rattle.number.specs.Root.{rootOf}
 use Rattle.number.proofs.Corners.{RootCorners, root-corners}
-use Rattle.polynomial_root.specs.Quadratic.{none, refused, written, push, two32, solved}
-use Rattle.polynomial_root.specs.Cubic.{three32, cubicOf, descend, started, spanRoot, linearRoots, keep, keptRoots, lowerRoots, joined, after, firstSpan, middleSpan, lastSpan, spanRoots, cubicRoots}
+use Rattle.polynomial_root.specs.Quadratic.{none, refused, push, two32, solved}
+use Rattle.polynomial_root.specs.Cubic.{three32, cubicOf, descend, started, spanRoot, linearRoots, keep, keptRoots, lowerRoots, joined, after, spanRoots, cubicRoots}
 use Rattle.polynomial_root.specs.Finder.{solvedRoots, quadraticRoot, cubicRootsInRange}
 use Rattle.polynomial_root.specs.declared.answer.Roots.{Roots}
 
@@ -40,7 +40,7 @@ Corners =
 
 pub corners : Corners
 unfolding
-    quadraticRoot solvedRoots cubicRootsInRange cubicRoots spanRoots firstSpan middleSpan lastSpan after joined
+    quadraticRoot solvedRoots cubicRootsInRange cubicRoots spanRoots after joined
     spanRoot started descend lowerRoots keptRoots keep linearRoots solved push written
     rootOf isFinite size smaller larger clamp ofBits neg add sub mul div lt le eq
 corners = (root-corners, refl, refl, refl, refl, refl, refl, refl, refl)

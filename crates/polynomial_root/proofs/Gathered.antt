@@ -5,8 +5,8 @@ use mathlib.Core.Bool.{Bool, true, false, cond}
 use lib.Dec.{eqb}
 use lib.Ieee.{Float}
 use borrow.Author.Tests.{eqb-true}
-use Rattle.number.specs.Number.{zero32, between}
-use Rattle.polynomial_root.specs.Quadratic.{none, written, push}
+use Rattle.number.specs.Number.{zero32, between, written}
+use Rattle.polynomial_root.specs.Quadratic.{none, push}
 use Rattle.polynomial_root.specs.Cubic.{keep, keptRoots, joined, after}
 use Rattle.polynomial_root.specs.Finder.{solvedRoots}
 use Rattle.polynomial_root.specs.declared.answer.Roots.{Roots}

@@ -7,22 +7,12 @@ use lib.Dec.{T, lit≤}
 use lib.Ieee.{Float, fin, binary32, neg, lt, le, eq, isNan, fits, ofBits}
 use lib.Ieee.Fits.{sub-fits}
 use lib.Ieee.Scale.{finite}
-use Rattle.number.specs.Number.{_⊕_, _⊗_, _⊘_, zero32, one32}
+use Rattle.number.specs.Number.{_⊕_, _⊖_, _⊗_, _⊘_, zero32, one32}
 use Rattle.number.specs.Root.{rootOf}
 use Rattle.number.proofs.Within.{Within, within-finite, within-more, add-within, sub-within, mul-within}
 use Rattle.number.proofs.Comparing.{not-lt-le, lt-le}
 use Rattle.number.proofs.SquareRoot.Bounds.{root-within}
-use Rattle.polynomial_root.specs.Quadratic.{
-  two32,
-  four32,
-  discriminant,
-  signOf,
-  stable,
-  direct,
-  other,
-  inOrder,
-  solved,
-}
+use Rattle.polynomial_root.specs.Quadratic.{two32, four32, stable, inOrder, solved}
 use Rattle.polynomial_root.specs.declared.quadratic.Solved.{Solved}
 use Rattle.polynomial_root.specs.declared.quadratic.Solved.the-variants.{Neither, Both}
 use Rattle.polynomial_root.proofs.Orders.{test-true}
@@ -43,7 +33,19 @@ no-right : (b : Bool) {c : Bool} → c ≡ false → (b && c) ≡ false
 no-right true h = h
 no-right false h = refl
 
--- ---- the sizes inside
+-- ---- the parts of the definition, and their sizes
+abbrev discriminant : Float → Float → Float → Float
+discriminant c0 c1 c2 = c1 ⊗ c1 ⊖ four32 ⊗ c2 ⊗ c0
+
+abbrev signOf : Float → Float
+signOf c1 = cond (lt c1 zero32) (neg one32) one32
+
+abbrev direct : Float → Float → Float
+direct c2 s = s ⊘ (two32 ⊗ c2)
+
+abbrev other : Float → Float → Float → Float
+other c0 c2 s = cond (eq s zero32) (direct c2 s) (two32 ⊗ c0 ⊘ s)
+
 four-within : Within 2 four32
 unfolding ofBits
 four-within = lit≤ tt

@@ -8,13 +8,12 @@ use mathlib.Core.Bool.{Bool, true, false, not, _&&_, _||_, cond}
 use lib.Dec.{T, ltb, eqb, eqb→eq}
 use lib.Ieee.{Float, nan, inf, fin, up, down, lt, le, eq, isNan, ofBits}
 use lib.Ieee.Fits.{down-pos, and-i, and-l, and-r}
-use Rattle.number.specs.Number.{zero32, clamp, between}
+use Rattle.number.specs.Number.{zero32, clamp, between, written}
 use Rattle.number.proofs.Within.{Within}
 use Rattle.number.proofs.Comparing.{not-lt-le, le-self, lt-le}
 use Rattle.number.proofs.Units.Compared.{no-size}
 use Rattle.number.proofs.Signs.{le-of-tests}
 use Rattle.number.proofs.NoNan.{no-nan-lt}
-use Rattle.polynomial_root.specs.Quadratic.{written}
 use Rattle.polynomial_root.proofs.Zeros.{high-zero}
 
 -- ---- tests

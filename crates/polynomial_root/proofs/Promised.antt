@@ -10,11 +10,12 @@ use mathlib.Core.List.{[], _∷_}
 use lib.Dec.{T, lit≤}
 use lib.Ieee.{Float, binary32, lt, eq, isNan, fits, ofBits}
 use lib.Ieee.Fits.{add-fits}
-use Rattle.number.specs.Number.{_⊖_, _⊗_, _⊘_, zero32, one32, between}
+use Rattle.number.specs.Number.{_⊖_, _⊗_, _⊘_, zero32, one32, between, written}
+use Rattle.number.proofs.Answers.{admitted-keeps}
 use Rattle.number.proofs.Within.{Within, within-more}
-use Rattle.polynomial_root.specs.Quadratic.{none, refused, written, push, two32, solved}
-use Rattle.polynomial_root.specs.Cubic.{three32, valueAt, bothZero, vanishes, constantRoots, opposite, linearRoots, keep, keptRoots, lowerRoots, spanRoots, cubicRoots}
-use Rattle.polynomial_root.specs.Finder.{finiteQuadratic, allowedQuadratic, finiteCubic, allowedCubic, solvedRoots, quadraticRoot, cubicRootsInRange, NoneOrTwo, rangeEnd}
+use Rattle.polynomial_root.specs.Quadratic.{none, refused, push, two32, solved}
+use Rattle.polynomial_root.specs.Cubic.{three32, valueAt, bothZero, vanishes, opposite, linearRoots, keep, keptRoots, lowerRoots, spanRoots, cubicRoots}
+use Rattle.polynomial_root.specs.Finder.{quadraticRefusal, cubicRefusal, solvedRoots, quadraticRoot, cubicRootsInRange, NoneOrTwo, rangeEnd}
 use Rattle.polynomial_root.specs.declared.answer.Roots.{Roots}
 use Rattle.polynomial_root.specs.declared.cubic.Cubic.{Cubic}
 use Rattle.polynomial_root.specs.declared.quadratic.Solved.{Solved}
@@ -24,7 +25,7 @@ use Rattle.polynomial_root.proofs.Defined.{value-within}
 use Rattle.polynomial_root.proofs.Places.{Holds, refused-holds, push-holds}
 use Rattle.polynomial_root.proofs.Gathered.{Solves, solved-holds, kept-holds}
 use Rattle.polynomial_root.proofs.Spans.{Allowed, spans-in-range}
-use Rattle.polynomial_root.proofs.Admitted.{allowed-quadratic, allowed-cubic, admitted-keeps}
+use Rattle.polynomial_root.proofs.Admitted.{allowed-quadratic, allowed-cubic}
 use Rattle.polynomial_root.proofs.Linear.{linear-in-range}
 use Rattle.polynomial_root.proofs.Ordered.{InOrder, solved-ordered}
 use Rattle.polynomial_root.proofs.Written.{written-number, written-order}
@@ -38,8 +39,7 @@ abbrev In : Float → Float → Type 0
 In end r = T (between zero32 end r)
 
 module _ (p : Cubic) (t epsilon : Float) (h : Allowed p t) where
-  constant-holds : Holds (In t) (constantRoots (p .c0))
-  unfolding constantRoots
+  constant-holds : Holds (In t) (cond (vanishes (p .c0)) (push none zero32) none)
   constant-holds = go (vanishes (p .c0))
     where
       go : (b : Bool) → Holds (In t) (cond b (push none zero32) none)
@@ -78,7 +78,8 @@ module _ (p : Cubic) (t epsilon : Float) (h : Allowed p t) where
 
       go : (y z : Bool)
           → Holds (In (cond (y && not z) one32 t))
-          (cond y (cond z (constantRoots (p .c0)) (linearRoots (p .c0) (valueAt p t))) (keptRoots t roots))
+          (cond y (cond z (cond (vanishes (p .c0)) (push none zero32) none) (linearRoots (p .c0) (valueAt p t)))
+          (keptRoots t roots))
       go true true = constant-holds
       go true false = linear-holds f
       go false z = kept-holds (In t) t (λ r i. written-in-range t (h .above) r (test-true i)) roots
@@ -100,9 +101,9 @@ pub cubic-promises : (p : Cubic) (t epsilon : Float) → T (fits binary32 (p .c0
     → Holds (In (rangeEnd p t)) (cubicRootsInRange p t epsilon)
 unfolding cubicRootsInRange
 cubic-promises p t epsilon f =
-    admitted-keeps (Holds (In (rangeEnd p t))) (finiteCubic p t epsilon) (allowedCubic p t epsilon)
-    (cubicRoots p t epsilon) (refused-holds (In (rangeEnd p t)))
-    (λ a. cubic-holds p t epsilon (allowed-cubic p t epsilon a) f)
+    let n = cubicRefusal p t epsilon in
+    admitted-keeps (Holds (In (rangeEnd p t))) n (cubicRoots p t epsilon) (refused n)
+    (λ e. cubic-holds p t epsilon (allowed-cubic p t epsilon e) f) (refused-holds (In (rangeEnd p t)) n)
 
 -- ---- a quadratic's roots
 abbrev Number : Float → Type 0
@@ -136,11 +137,11 @@ solved-quadratic s h = record { numbers = solved-holds Number s (solves s h); tw
 pub quadratic-promises : (c0 c1 c2 : Float) → T (fits binary32 c2) → Quadratic (quadraticRoot c0 c1 c2)
 unfolding quadraticRoot
 quadratic-promises c0 c1 c2 f =
-    admitted-keeps Quadratic (finiteQuadratic c0 c1 c2) (allowedQuadratic c0 c1 c2) inner refused-quadratic
-    (λ a. go (eq c2 zero32) refl (allowed-quadratic c0 c1 c2 a))
+    admitted-keeps Quadratic n (cond (eq c2 zero32) (refused 9) (solvedRoots (solved c0 c1 c2))) (refused n)
+    (λ e. go (eq c2 zero32) refl (allowed-quadratic c0 c1 c2 e)) (refused-quadratic n)
   where
-    inner : Roots
-    inner = cond (eq c2 zero32) (refused 9) (solvedRoots (solved c0 c1 c2))
+    n : ℕ
+    n = quadraticRefusal c0 c1 c2
 
     go : (b : Bool) → eq c2 zero32 ≡ b → Within 20 c0 × Within 20 c1 × Within 20 c2
         → Quadratic (cond b (refused 9) (solvedRoots (solved c0 c1 c2)))

@@ -1,15 +1,15 @@
 -- Newton's steps and the spans stay in 0..t: what they give lies there, and no step is NaN. Assumes nothing.
 use Prim.Native.Nat.{ℕ, zero, suc}
 use mathlib.Core.Path.{_≡_, refl}
-use mathlib.Core.Bool.{Bool, true, false, cond, _&&_}
+use mathlib.Core.Bool.{Bool, true, false, cond, _&&_, _||_}
 use lib.Dec.{T}
 use lib.Ieee.{Float, lt, le, eq}
 use lib.Ieee.Fits.{and-i, and-l}
-use Rattle.number.specs.Number.{_⊖_, _⊘_, zero32, size, smaller, larger, between}
+use Rattle.number.specs.Number.{_⊖_, _⊗_, _⊘_, zero32, size, smaller, larger, between}
 use Rattle.number.proofs.Within.{Within, within-finite}
 use Rattle.number.proofs.Comparing.{lt-le}
 use Rattle.polynomial_root.specs.Quadratic.{none}
-use Rattle.polynomial_root.specs.Cubic.{valueAt, slopeAt, stepped, flat, descend, endAt, oneSided, bothZero, secant, started, spanRoot, start, firstSpan, middleSpan, lastSpan, spanRoots, after}
+use Rattle.polynomial_root.specs.Cubic.{valueAt, slopeAt, stepped, bothZero, descend, newtonSteps, started, endAt, spanRoot, start, partRoot, spanRoots, after}
 use Rattle.polynomial_root.specs.declared.cubic.Cubic.{Cubic}
 use Rattle.polynomial_root.specs.declared.newton.Found.the-variants.{Root, Nothing, Refused}
 use Rattle.polynomial_root.specs.declared.quadratic.Solved.{Solved}
@@ -33,7 +33,7 @@ module _ (p : Cubic) (t epsilon : Float) (h : Allowed p t) where
   abbrev In : Float → Type 0
   In r = T (between zero32 t r)
 
-  step-in-range : (r : Float) → In r → flat p r ≡ false → In (stepped p t r)
+  step-in-range : (r : Float) → In r → bothZero (valueAt p r) (slopeAt p r) ≡ false → In (stepped p t r)
   step-in-range r i n =
       let w = within-range 0 r t i (h .small) in
       let v = within-finite 23 (valueAt p r) (value-within p r (h .w0) (h .w1) (h .w2) (h .w3) w) in
@@ -46,7 +46,7 @@ module _ (p : Cubic) (t epsilon : Float) (h : Allowed p t) where
   unfolding descend
   descend-in-range zero r i = written-in-range t (h .above) r i
   descend-in-range (suc k) r i =
-      go (lt (size (valueAt p r)) epsilon) (flat p r) (λ n. descend-in-range k (stepped p t r) (step-in-range r i n))
+      go (lt (size (valueAt p r)) epsilon) (bothZero (valueAt p r) (slopeAt p r)) (λ n. descend-in-range k (stepped p t r) (step-in-range r i n))
     where
       go : (a b : Bool) → (b ≡ false → Gives In (descend p t epsilon k (stepped p t r)))
           → Gives In (cond a (Root r) (cond b (Refused 8) (descend p t epsilon k (stepped p t r))))
@@ -56,26 +56,30 @@ module _ (p : Cubic) (t epsilon : Float) (h : Allowed p t) where
 
   started-in-range : (r : Float) → Gives In (started p t epsilon r)
   unfolding started
-  started-in-range r = go (between zero32 t r) (λ e. descend-in-range 20 r (test-true e))
+  started-in-range r = go (between zero32 t r) (λ e. descend-in-range newtonSteps r (test-true e))
     where
-      go : (b : Bool) → (b ≡ true → Gives In (descend p t epsilon 20 r))
-          → Gives In (cond b (descend p t epsilon 20 r) (Refused 7))
+      go : (b : Bool) → (b ≡ true → Gives In (descend p t epsilon newtonSteps r))
+          → Gives In (cond b (descend p t epsilon newtonSteps r) (Refused 7))
       go true f = f refl
       go false f = tt
 
   span-in-range : (a b : End) → In (a .x) → Gives In (spanRoot p t epsilon a b)
   unfolding spanRoot
   span-in-range a b i =
-      go (oneSided (a .f) (b .f)) (eq (a .x) (b .x)) (eq (a .f) zero32) (bothZero (a .f) (b .f))
+      go ((lt (a .f) zero32 && lt (b .f) zero32) || (lt zero32 (a .f) && lt zero32 (b .f))) (eq (a .x) (b .x))
+      (eq (a .f) zero32) (bothZero (a .f) (b .f))
     where
+      secant : Float
+      secant = (a .f ⊗ b .x ⊖ b .f ⊗ a .x) ⊘ (a .f ⊖ b .f)
+
       go : (o s z d : Bool)
           → Gives In (cond o Nothing (cond s (cond z (Root (a .x)) Nothing)
-          (cond d (Refused 6) (started p t epsilon (secant a b)))))
+          (cond d (Refused 6) (started p t epsilon secant))))
       go true s z d = tt
       go false true true d = written-in-range t (h .above) (a .x) i
       go false true false d = tt
       go false false z true = tt
-      go false false z false = started-in-range (secant a b)
+      go false false z false = started-in-range secant
 
   larger-in-range : (e : Float) → T (le e t) → In (larger zero32 e)
   unfolding larger
@@ -85,33 +89,9 @@ module _ (p : Cubic) (t epsilon : Float) (h : Allowed p t) where
       go true q = and-i (le zero32 e) (le e t) (lt-le zero32 e (test-true q)) l
       go false q = zero-in-range t (h .above)
 
-  first-in-range : (e0 : Float) → Gives In (firstSpan p t epsilon e0)
-  unfolding firstSpan
-  first-in-range e0 = go (le zero32 e0)
-    where
-      go : (b : Bool) → Gives In (cond b (spanRoot p t epsilon (start p) (endAt p (smaller t e0))) Nothing)
-      go true = span-in-range (start p) (endAt p (smaller t e0)) (zero-in-range t (h .above))
-      go false = tt
-
-  middle-in-range : (e0 e1 : Float) → Gives In (middleSpan p t epsilon e0 e1)
-  unfolding middleSpan
-  middle-in-range e0 e1 = go (le e0 t && le zero32 e1) refl
-    where
-      go : (b : Bool) → (le e0 t && le zero32 e1) ≡ b
-          → Gives In (cond b (spanRoot p t epsilon (endAt p (larger zero32 e0)) (endAt p (smaller t e1))) Nothing)
-      go true q =
-          span-in-range (endAt p (larger zero32 e0)) (endAt p (smaller t e1))
-          (larger-in-range e0 (and-l (le e0 t) (le zero32 e1) (test-true q)))
-      go false q = tt
-
-  last-in-range : (e1 : Float) → Gives In (lastSpan p t epsilon e1)
-  unfolding lastSpan
-  last-in-range e1 = go (le e1 t) refl
-    where
-      go : (b : Bool) → le e1 t ≡ b
-          → Gives In (cond b (spanRoot p t epsilon (endAt p (larger zero32 e1)) (endAt p t)) Nothing)
-      go true q = span-in-range (endAt p (larger zero32 e1)) (endAt p t) (larger-in-range e1 (test-true q))
-      go false q = tt
+  part-in-range : (there : Bool) (a b : End) → (there ≡ true → In (a .x)) → Gives In (partRoot p t epsilon there a b)
+  part-in-range true a b i = span-in-range a b (i refl)
+  part-in-range false a b i = tt
 
   pub spans-in-range : (s : Solved) → Holds In (spanRoots p t epsilon s)
   unfolding spanRoots
@@ -119,10 +99,11 @@ module _ (p : Cubic) (t epsilon : Float) (h : Allowed p t) where
       after-holds In none (spanRoot p t epsilon (start p) (endAt p t)) (refused-holds In 0)
       (span-in-range (start p) (endAt p t) (zero-in-range t (h .above)))
   spans-in-range (Both e0 e1) =
-      let a = after none (firstSpan p t epsilon e0) in
-      let b = after a (middleSpan p t epsilon e0 e1) in
-      after-holds In b (lastSpan p t epsilon e1)
-      (after-holds In a (middleSpan p t epsilon e0 e1)
-      (after-holds In none (firstSpan p t epsilon e0) (refused-holds In 0) (first-in-range e0))
-      (middle-in-range e0 e1))
-      (last-in-range e1)
+      let there = le e0 t && le zero32 e1 in
+      let first = part-in-range (le zero32 e0) (start p) (endAt p (smaller t e0)) (λ e. zero-in-range t (h .above)) in
+      let middle =
+      part-in-range there (endAt p (larger zero32 e0)) (endAt p (smaller t e1))
+      (λ e. larger-in-range e0 (and-l (le e0 t) (le zero32 e1) (test-true e))) in
+      let last =
+      part-in-range (le e1 t) (endAt p (larger zero32 e1)) (endAt p t) (λ e. larger-in-range e1 (test-true e)) in
+      after-holds In _ _ (after-holds In _ _ (after-holds In none _ (refused-holds In 0) first) middle) last

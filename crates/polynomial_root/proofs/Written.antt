@@ -9,12 +9,11 @@ use mathlib.Core.Bool.{Bool, true, false, not, cond, _&&_, _||_}
 use lib.Dec.{T, ltb, eqb, ltb→lt, lt→ltb, eqb→eq}
 use lib.Ieee.{Float, inf, fin, up, down, lt, le, eq, isNan, ofBits}
 use lib.Ieee.Fits.{up-pos, down-pos, and-l}
-use Rattle.number.specs.Number.{zero32}
+use Rattle.number.specs.Number.{zero32, written}
 use Rattle.number.proofs.Units.{none-of}
 use Rattle.number.proofs.Units.Compared.{no-size}
 use Rattle.number.proofs.Comparing.{or-l, le-self}
 use Rattle.number.proofs.Signs.{plus-up}
-use Rattle.polynomial_root.specs.Quadratic.{written}
 use Rattle.polynomial_root.proofs.Orders.{test-true, tested}
 use Rattle.polynomial_root.proofs.Zeros.{eq-zero, zero-high, zero-low}
 

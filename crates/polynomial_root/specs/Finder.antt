@@ -1,38 +1,27 @@
 -- The two root finders as a caller meets them: refusals 1 and 2, then the roots; and what their answers promise
 -- (docs/01-scope.md, "Roots", "What callers hand over", "Refusal numbers"). Definitions only.
-use mathlib.Core.Bool.{Bool, cond, _&&_, not}
-use lib.Ieee.{Float, eq, nan, isNan, le}
-use Rattle.number.specs.Number.{isFinite, inBound, zeroToBound, aboveZeroToOne, zero32, one32, between}
-use Rattle.polynomial_root.specs.Quadratic.{refused, none, push, solved}
-use Rattle.polynomial_root.specs.declared.answer.Roots.{Roots}
-use Rattle.polynomial_root.specs.declared.cubic.Cubic.{Cubic}
-use Rattle.polynomial_root.specs.Cubic.{cubicRoots, vanishes}
-use Rattle.polynomial_root.specs.declared.quadratic.Solved.{Solved}
-use Rattle.polynomial_root.specs.declared.quadratic.Solved.the-variants.{Neither, Both}
 use Prim.Native.Nat.{ℕ, _≤_, _<_}
-use mathlib.Core.Path.{_≡_}
-use mathlib.Core.Logic.{_⊎_}
-use lib.Dec.{T}
-use lib.ListN.{length, getD}
+use mathlib.Core.{Path._≡_, Logic._⊎_}
+use mathlib.Core.Bool.{cond, not, _&&_}
+use lib.{Dec.T, ListN.length, ListN.getD}
+use lib.Ieee.{Float, nan, isNan, le, eq}
+use Rattle.number.specs.Number.{zero32, one32, isFinite, inBound, zeroToBound, aboveZeroToOne, between, refusal}
+use Rattle.polynomial_root.specs.Quadratic.{none, refused, orRefused, push, solved}
+use Rattle.polynomial_root.specs.Cubic.{vanishes, cubicRoots}
+use Rattle.polynomial_root.specs.declared.{answer.Roots.Roots, cubic.Cubic.Cubic, quadratic.Solved.Solved}
+use Rattle.polynomial_root.specs.declared.quadratic.Solved.the-variants.{Neither, Both}
 
-abbrev pub finiteQuadratic : Float → Float → Float → Bool
-finiteQuadratic c0 c1 c2 = isFinite c0 && isFinite c1 && isFinite c2
+abbrev pub quadraticRefusal : Float → Float → Float → ℕ
+quadraticRefusal c0 c1 c2 =
+    refusal (isFinite c0 && isFinite c1 && isFinite c2) (inBound c0 && inBound c1 && inBound c2)
 
-abbrev pub allowedQuadratic : Float → Float → Float → Bool
-allowedQuadratic c0 c1 c2 = inBound c0 && inBound c1 && inBound c2
-
--- the four coefficients, t and epsilon
-abbrev pub finiteCubic : Cubic → Float → Float → Bool
-finiteCubic p t epsilon =
-    isFinite (p .c0) && isFinite (p .c1) && isFinite (p .c2) && isFinite (p .c3) && isFinite t && isFinite epsilon
-
-abbrev pub allowedCubic : Cubic → Float → Float → Bool
-allowedCubic p t epsilon =
-    inBound (p .c0) && inBound (p .c1) && inBound (p .c2) && inBound (p .c3) && aboveZeroToOne t && zeroToBound epsilon
-
--- 1 where some number is not finite, else 2 where some number is out of its range, else the answer
-abbrev pub admitted : Bool → Bool → Roots → Roots
-admitted finite allowed a = cond finite (cond allowed a (refused 2)) (refused 1)
+-- of the four coefficients, t and epsilon
+abbrev pub cubicRefusal : Cubic → Float → Float → ℕ
+cubicRefusal p t epsilon =
+    refusal
+    (isFinite (p .c0) && isFinite (p .c1) && isFinite (p .c2) && isFinite (p .c3) && isFinite t && isFinite epsilon)
+    (inBound (p .c0) && inBound (p .c1) && inBound (p .c2) && inBound (p .c3) && aboveZeroToOne t
+    && zeroToBound epsilon)
 
 unfoldable pub solvedRoots : Solved → Roots
 solvedRoots Neither = none
@@ -41,12 +30,10 @@ solvedRoots (Both a b) = push (push none a) b
 -- refusal 9: not a quadratic
 unfoldable pub quadraticRoot : Float → Float → Float → Roots
 quadraticRoot c0 c1 c2 =
-    admitted (finiteQuadratic c0 c1 c2) (allowedQuadratic c0 c1 c2)
-    (cond (eq c2 zero32) (refused 9) (solvedRoots (solved c0 c1 c2)))
+    orRefused (quadraticRefusal c0 c1 c2) (cond (eq c2 zero32) (refused 9) (solvedRoots (solved c0 c1 c2)))
 
 unfoldable pub cubicRootsInRange : Cubic → Float → Float → Roots
-cubicRootsInRange p t epsilon =
-    admitted (finiteCubic p t epsilon) (allowedCubic p t epsilon) (cubicRoots p t epsilon)
+cubicRootsInRange p t epsilon = orRefused (cubicRefusal p t epsilon) (cubicRoots p t epsilon)
 
 -- ---- what the answers promise beside being the defined ones
 -- at most three roots, the count is right, unused places are zero, and a refusal has no root

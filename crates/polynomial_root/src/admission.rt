@@ -1,35 +1,37 @@
-// Which numbers a caller may hand over (docs/01-scope.md, "What callers hand over").
+// Which numbers a caller may hand over (docs/01-scope.md, "What callers hand over"): refusals 1 and 2.
 ghost use mathlib.Core.Path.{_≡_};
 ghost use Rattle.polynomial_root.specs.Finder as Def;
 use crate::cubic::Cubic;
 use number::range::above_zero_to_one;
 use number::range::in_bound;
 use number::range::is_finite;
+use number::range::verdict;
 use number::range::zero_to_bound;
 
-pub(crate) fn finite_quadratic(c0: f32, c1: f32, c2: f32) -> bool
-    ensures { λ b. ⌜ b ≡ Def.finiteQuadratic c0 c1 c2 ⌝ }
+pub(crate) fn admit_quadratic(c0: f32, c1: f32, c2: f32) -> u32
+    ensures { λ r. ⌜ r ≡ Def.quadraticRefusal c0 c1 c2 ⌝ }
 {
-    is_finite(c0) & is_finite(c1) & is_finite(c2)
+    verdict(
+        is_finite(c0) & is_finite(c1) & is_finite(c2),
+        in_bound(c0) & in_bound(c1) & in_bound(c2),
+    )
 }
 
-pub(crate) fn allowed_quadratic(c0: f32, c1: f32, c2: f32) -> bool
-    ensures { λ b. ⌜ b ≡ Def.allowedQuadratic c0 c1 c2 ⌝ }
+pub(crate) fn admit_cubic(p: Cubic, t: f32, epsilon: f32) -> u32
+    ensures { λ r. ⌜ r ≡ Def.cubicRefusal p t epsilon ⌝ }
 {
-    in_bound(c0) & in_bound(c1) & in_bound(c2)
-}
-
-pub(crate) fn finite_cubic(p: Cubic, t: f32, epsilon: f32) -> bool
-    ensures { λ b. ⌜ b ≡ Def.finiteCubic p t epsilon ⌝ }
-{
-    finite_quadratic(p.c0, p.c1, p.c2) & is_finite(p.c3) & is_finite(t) & is_finite(epsilon)
-}
-
-pub(crate) fn allowed_cubic(p: Cubic, t: f32, epsilon: f32) -> bool
-    ensures { λ b. ⌜ b ≡ Def.allowedCubic p t epsilon ⌝ }
-{
-    allowed_quadratic(p.c0, p.c1, p.c2)
-        & in_bound(p.c3)
-        & above_zero_to_one(t)
-        & zero_to_bound(epsilon)
+    verdict(
+        is_finite(p.c0)
+            & is_finite(p.c1)
+            & is_finite(p.c2)
+            & is_finite(p.c3)
+            & is_finite(t)
+            & is_finite(epsilon),
+        in_bound(p.c0)
+            & in_bound(p.c1)
+            & in_bound(p.c2)
+            & in_bound(p.c3)
+            & above_zero_to_one(t)
+            & zero_to_bound(epsilon),
+    )
 }

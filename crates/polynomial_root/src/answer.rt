@@ -1,6 +1,7 @@
 // What the root finders answer (docs/01-scope.md, "Roots"): three places and a count stand in for the Vec.
 ghost use mathlib.Core.Path.{_≡_};
 ghost use Rattle.polynomial_root.specs.Quadratic as Def;
+use number::order::written;
 
 // The roots in the first `count` places, zero in the others; `refusal` 0, or the number of a refusal and no root.
 #[repr(C)]
@@ -18,13 +19,6 @@ pub fn refused(number: u32) -> Roots
         count: 0,
         roots: [0.0; 3],
     }
-}
-
-// A root as it is answered: a zero of either sign is written plus zero.
-pub(crate) fn written(r: f32) -> f32
-    ensures { λ w. ⌜ w ≡ Def.written r ⌝ }
-{
-    if r == 0.0 { 0.0 } else { r }
 }
 
 // One root more, in the next place; a full answer stands.

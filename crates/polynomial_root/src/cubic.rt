@@ -49,55 +49,32 @@ fn start(p: Cubic) -> End
     End { x: 0.0, f: p.c0 }
 }
 
-// The part of 0..t before the slope's first root.
-fn first_span(p: Cubic, t: f32, epsilon: f32, e0: f32) -> Found
-    ensures { λ f. ⌜ f ≡ Def.firstSpan p t epsilon e0 ⌝ }
+// The root in a part of 0..t, where the part is there.
+fn part_root(p: Cubic, t: f32, epsilon: f32, there: bool, a: End, b: End) -> Found
+    ensures { λ f. ⌜ f ≡ Def.partRoot p t epsilon there a b ⌝ }
 {
-    if 0.0 <= e0 {
-        span_root(p, t, epsilon, start(p), end_at(p, smaller(t, e0)))
+    if there {
+        span_root(p, t, epsilon, a, b)
     } else {
         Found::Nothing
     }
 }
 
-// The part between the slope's roots.
-fn middle_span(p: Cubic, t: f32, epsilon: f32, e0: f32, e1: f32) -> Found
-    ensures { λ f. ⌜ f ≡ Def.middleSpan p t epsilon e0 e1 ⌝ }
-{
-    if (e0 <= t) & (0.0 <= e1) {
-        span_root(
-            p,
-            t,
-            epsilon,
-            end_at(p, larger(0.0, e0)),
-            end_at(p, smaller(t, e1)),
-        )
-    } else {
-        Found::Nothing
-    }
-}
-
-// The part behind the slope's second root.
-fn last_span(p: Cubic, t: f32, epsilon: f32, e1: f32) -> Found
-    ensures { λ f. ⌜ f ≡ Def.lastSpan p t epsilon e1 ⌝ }
-{
-    if e1 <= t {
-        span_root(p, t, epsilon, end_at(p, larger(0.0, e1)), end_at(p, t))
-    } else {
-        Found::Nothing
-    }
-}
-
-// The spans one after another, cut at the slope's roots; without any, 0..t is the one span.
+// The parts before, between and behind the slope's roots; without any, 0..t is the one span.
 fn span_roots(p: Cubic, t: f32, epsilon: f32, s: Solved) -> Roots
     ensures { λ r. ⌜ r ≡ Def.spanRoots p t epsilon s ⌝ }
 {
     match s {
         Solved::Neither => after(refused(0), span_root(p, t, epsilon, start(p), end_at(p, t))),
         Solved::Both(e0, e1) => {
-            let first = after(refused(0), first_span(p, t, epsilon, e0));
-            let middle = after(first, middle_span(p, t, epsilon, e0, e1));
-            after(middle, last_span(p, t, epsilon, e1))
+            let x0 = end_at(p, smaller(t, e0));
+            let first = part_root(p, t, epsilon, 0.0 <= e0, start(p), x0);
+            let x1 = end_at(p, larger(0.0, e0));
+            let x2 = end_at(p, smaller(t, e1));
+            let middle = part_root(p, t, epsilon, (e0 <= t) & (0.0 <= e1), x1, x2);
+            let x3 = end_at(p, larger(0.0, e1));
+            let last = part_root(p, t, epsilon, e1 <= t, x3, end_at(p, t));
+            after(after(after(refused(0), first), middle), last)
         }
     }
 }

@@ -11,10 +11,8 @@ mod span;
 ghost use mathlib.Core.Path.{_≡_};
 ghost use Rattle.polynomial_root.specs.Cubic.{cubicOf};
 ghost use Rattle.polynomial_root.specs.Finder.{Tidy, NoNan, NoneOrTwo, InRange, rangeEnd, quadraticRoot, cubicRootsInRange};
-use admission::allowed_cubic;
-use admission::allowed_quadratic;
-use admission::finite_cubic;
-use admission::finite_quadratic;
+use admission::admit_cubic;
+use admission::admit_quadratic;
 use answer::Roots;
 use answer::refused;
 use cubic::Cubic;
@@ -26,11 +24,9 @@ pub fn quadratic_root(c0: f32, c1: f32, c2: f32) -> Roots
     ensures numbers { λ r. ⌜ NoNan r ⌝ }
     ensures two { λ r. ⌜ NoneOrTwo r ⌝ }
 {
-    if !finite_quadratic(c0, c1, c2) {
-        return refused(1);
-    }
-    if !allowed_quadratic(c0, c1, c2) {
-        return refused(2);
+    let refusal = admit_quadratic(c0, c1, c2);
+    if refusal != 0 {
+        return refused(refusal);
     }
     if c2 == 0.0 {
         return refused(9);
@@ -52,11 +48,10 @@ pub fn cubic_roots_in_range_zero_to_t(
     ensures range { λ r. ⌜ InRange (rangeEnd (cubicOf c0 c1 c2 c3) t) r ⌝ }
 {
     let p = Cubic { c0, c1, c2, c3 };
-    if !finite_cubic(p, t, epsilon) {
-        return refused(1);
+    let refusal = admit_cubic(p, t, epsilon);
+    if refusal == 0 {
+        cubic::cubic_roots(p, t, epsilon)
+    } else {
+        refused(refusal)
     }
-    if !allowed_cubic(p, t, epsilon) {
-        return refused(2);
-    }
-    cubic::cubic_roots(p, t, epsilon)
 }

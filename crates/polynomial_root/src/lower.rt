@@ -1,7 +1,10 @@
 // The roots in 0..t of a polynomial of degree two at most, and the tests of the degree (polynomial_root.rs,
 // `cubic_roots_in_range_zero_to_t` up to "quadratic function").
 ghost use mathlib.Core.Path.{_≡_};
+ghost use mathlib.Core.Bool.{cond};
+ghost use Rattle.number.specs.Number.{zero32};
 ghost use Rattle.polynomial_root.specs.Cubic as Def;
+ghost use Rattle.polynomial_root.specs.Quadratic as Answer;
 use crate::answer::Roots;
 use crate::answer::push;
 use crate::answer::refused;
@@ -19,7 +22,7 @@ pub(crate) fn vanishes(c: f32) -> bool
 }
 
 fn constant_roots(c0: f32) -> Roots
-    ensures { λ r. ⌜ r ≡ Def.constantRoots c0 ⌝ }
+    ensures { λ r. ⌜ r ≡ cond (Def.vanishes c0) (Answer.push Answer.none zero32) Answer.none ⌝ }
 {
     if vanishes(c0) {
         push(refused(0), 0.0)

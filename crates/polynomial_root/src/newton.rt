@@ -24,13 +24,16 @@ pub(crate) fn slope_at(p: Cubic, r: f32) -> f32
     p.c1 + 2.0 * p.c2 * r + 3.0 * p.c3 * r * r
 }
 
-// At most twenty steps from r, held to 0..t, until the value's size is below epsilon.
+// How many steps at most.
+const NEWTON_STEPS: u32 = 20;
+
+// At most so many steps from r, held to 0..t, until the value's size is below epsilon.
 pub(crate) fn descend(p: Cubic, t: f32, epsilon: f32, guess: f32) -> Found
-    ensures { λ f. ⌜ f ≡ Def.descend p t epsilon 20 guess ⌝ }
+    ensures { λ f. ⌜ f ≡ Def.descend p t epsilon Def.newtonSteps guess ⌝ }
 {
     let mut r = guess;
     let mut i: u32 = 0;
-    while i < 20 {
+    while i < NEWTON_STEPS {
         let f = value_at(p, r);
         if size(f) < epsilon {
             return Found::Root(r);

@@ -1,5 +1,8 @@
 // The roots of a quadratic, for any numbers (polynomial_root.rs, `quadratic_root`).
 ghost use mathlib.Core.Path.{_≡_};
+ghost use mathlib.Core.Bool.{cond};
+ghost use lib.Ieee.{lt, neg};
+ghost use Rattle.number.specs.Number.{zero32, one32};
 ghost use Rattle.polynomial_root.specs.Quadratic as Def;
 ghost use Rattle.polynomial_root.specs.Finder as Called;
 use crate::answer::Roots;
@@ -25,7 +28,7 @@ fn in_order(a: f32, b: f32) -> Solved
 
 // The sign of c1 as a factor; a zero's is plus.
 fn sign_of(c1: f32) -> f32
-    ensures { λ r. ⌜ r ≡ Def.signOf c1 ⌝ }
+    ensures { λ r. ⌜ r ≡ cond (lt c1 zero32) (neg one32) one32 ⌝ }
 {
     if c1 < 0.0 { -1.0 } else { 1.0 }
 }

@@ -8,7 +8,7 @@ use Rattle.geometry.specs.Geometry.{vec}
 use mathlib.Core.Bool.{Bool, true, cond, _&&_, _||_}
 use lib.Dec.{ltb, leb, eqb}
 use Rattle.scene.specs.declared.layout.Scene.{Scene}
-use Rattle.pair.specs.Norm.{normOf}
+use Rattle.pair.specs.Points.{normOf}
 use Rattle.admission.specs.declared.Limits.{Limits}
 use Rattle.ccd3.specs.declared.SafeTime.{SafeTime}
 use Rattle.ccd3.specs.SafeTime.{safeTimeOf, Promises}

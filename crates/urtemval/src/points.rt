@@ -4,8 +4,7 @@
 ghost use mathlib.Core.Path.{_≡_};
 ghost use Rattle.number.specs.Number.{answered};
 ghost use Rattle.admission.specs.Admission.{splitRefusal};
-ghost use Rattle.pair.specs.Points.{measured};
-ghost use Rattle.pair.specs.Norm.{normOf};
+ghost use Rattle.pair.specs.Points.{measured, normOf};
 ghost use Rattle.motion.specs.Scaling.{scalingOf, leaves};
 ghost use Rattle.urtemval.specs.Face as Told;
 ghost use Rattle.urtemval.specs.Face.{pairOf};

@@ -5,8 +5,10 @@ use mathlib.Core.Bool.{Bool, true, false, _&&_}
 use mathlib.Core.List.{List}
 use lib.Ieee.{Float}
 use borrow.Author.Needs.{needs}
-use Rattle.admission.specs.Admission.{finitePoints, boundedPoints, refusal, motionRefusal}
-use Rattle.admission.proofs.Admitted.{ranged-none, ranged-beyond, pair-real}
+use Rattle.number.specs.Number.{refusal}
+use Rattle.number.proofs.Answers.{ranged-none, ranged-beyond}
+use Rattle.admission.specs.Admission.{finitePoints, boundedPoints, motionRefusal}
+use Rattle.admission.proofs.Admitted.{pair-real}
 use Rattle.admission.proofs.admit_motion.Statement.{statement}
 use Rattle.admission.proofs.admit_motion.Tie as tie
 
@@ -23,26 +25,11 @@ module _ (x dx : List (List Float)) (p q : Bool) (ep : p ≡ boundedPoints x) (e
   left e =
       ranged-beyond (finitePoints x && finitePoints dx) (boundedPoints x && boundedPoints dx) (rw (← ep, ← eq) e)
 
-points-in-bound-requires : tie.Need-points-in-bound-requires
-points-in-bound-requires c κs = search needs
-
-points-in-bound-requires-2 : tie.Need-points-in-bound-requires-2
-points-in-bound-requires-2 c κs = search needs
-
 returns : tie.Need-returns
 returns c =
     let p = c .before .before in
     let a = p .before .args in
     taken (a .x) (a .dx) _ _ (p .points-in-bound .ensures) (c .before .points-in-bound2 .ensures) (c .if1 .taken)
-
-points-finite-requires : tie.Need-points-finite-requires
-points-finite-requires c κs = search needs
-
-points-finite-requires-2 : tie.Need-points-finite-requires-2
-points-finite-requires-2 c κs = search needs
-
-verdict-requires : tie.Need-verdict-requires
-verdict-requires c κs = search needs
 
 returns-2 : tie.Need-returns-2
 returns-2 c =
@@ -57,11 +44,4 @@ returns-2 c =
 pub admit-motion-spec : {M : Type 1} → statement M
 admit-motion-spec =
     tie.close
-    (tie.spec
-    points-in-bound-requires
-    points-in-bound-requires-2
-    returns
-    points-finite-requires
-    points-finite-requires-2
-    verdict-requires
-    returns-2)
+    (tie.spec (search needs) (search needs) returns (search needs) (search needs) (search needs) returns-2)

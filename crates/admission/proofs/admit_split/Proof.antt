@@ -7,8 +7,10 @@ use mathlib.Core.List.{List}
 use lib.Ieee.{Float}
 use lib.Ieee.Fits.{and-l}
 use borrow.Author.Needs.{needs}
-use Rattle.admission.specs.Admission.{finitePoints, boundedPoints, isSplit, refusal, splitRefusal}
-use Rattle.admission.proofs.Admitted.{ranged-none, ranged-beyond, points-real}
+use Rattle.number.specs.Number.{refusal}
+use Rattle.number.proofs.Answers.{ranged-none, ranged-beyond}
+use Rattle.admission.specs.Admission.{finitePoints, boundedPoints, isSplit, splitRefusal}
+use Rattle.admission.proofs.Admitted.{points-real}
 use Rattle.admission.proofs.admit_split.Statement.{statement}
 use Rattle.admission.proofs.admit_split.Tie as tie
 
@@ -24,23 +26,11 @@ module _ (x : List (List Float)) (split : ℕ) (p s : Bool) (ep : p ≡ boundedP
   unfolding splitRefusal
   left e = ranged-beyond (finitePoints x) (boundedPoints x && isSplit split) (rw (← ep, ← es) e)
 
-points-in-bound-requires : tie.Need-points-in-bound-requires
-points-in-bound-requires c κs = search needs
-
-is-split-requires : tie.Need-is-split-requires
-is-split-requires c κs = search needs
-
 returns : tie.Need-returns
 returns c =
     let p = c .before .before in
     let a = p .before .args in
     taken (a .x) (a .split) _ _ (p .points-in-bound .ensures) (c .before .is-split .ensures) (c .if1 .taken)
-
-points-finite-requires : tie.Need-points-finite-requires
-points-finite-requires c κs = search needs
-
-verdict-requires : tie.Need-verdict-requires
-verdict-requires c κs = search needs
 
 returns-2 : tie.Need-returns-2
 returns-2 c =
@@ -53,11 +43,4 @@ returns-2 c =
 
 pub admit-split-spec : {M : Type 1} → statement M
 admit-split-spec =
-    tie.close
-    (tie.spec
-    points-in-bound-requires
-    is-split-requires
-    returns
-    points-finite-requires
-    verdict-requires
-    returns-2)
+    tie.close (tie.spec (search needs) (search needs) returns (search needs) (search needs) returns-2)

@@ -7,9 +7,10 @@ use lib.Dec.{T}
 use lib.Ieee.{Float}
 use lib.Ieee.Fits.{and-i, and-l, and-r}
 use borrow.Author.Needs.{needs}
-use Rattle.number.specs.Number.{isFinite, zeroToOne}
-use Rattle.admission.specs.Admission.{finitePoints, boundedPoints, refusal, timeRefusal}
-use Rattle.admission.proofs.Admitted.{ranged-none, ranged-beyond, pair-real, one-real}
+use Rattle.number.specs.Number.{isFinite, zeroToOne, refusal}
+use Rattle.number.proofs.Answers.{ranged-none, ranged-beyond}
+use Rattle.admission.specs.Admission.{finitePoints, boundedPoints, timeRefusal}
+use Rattle.admission.proofs.Admitted.{pair-real, one-real}
 use Rattle.admission.proofs.admit_time.Statement.{statement}
 use Rattle.admission.proofs.admit_time.Tie as tie
 
@@ -36,15 +37,6 @@ module _ (x dx : List (List Float)) (t : Float) where
     unfolding timeRefusal
     left e = ranged-beyond finite ranged (rw (← ep, ← eq, ← es) e)
 
-points-in-bound-requires : tie.Need-points-in-bound-requires
-points-in-bound-requires c κs = search needs
-
-points-in-bound-requires-2 : tie.Need-points-in-bound-requires-2
-points-in-bound-requires-2 c κs = search needs
-
-zero-to-one-requires : tie.Need-zero-to-one-requires
-zero-to-one-requires c κs = search needs
-
 returns : tie.Need-returns
 returns c =
     let z = c .before in
@@ -52,18 +44,6 @@ returns c =
     let a = p .before .args in
     taken (a .x) (a .dx) (a .t) _ _ _ (p .points-in-bound .ensures) (z .before .points-in-bound2 .ensures)
     (z .zero-to-one .ensures) (c .if1 .taken)
-
-points-finite-requires : tie.Need-points-finite-requires
-points-finite-requires c κs = search needs
-
-points-finite-requires-2 : tie.Need-points-finite-requires-2
-points-finite-requires-2 c κs = search needs
-
-is-finite-requires : tie.Need-is-finite-requires
-is-finite-requires c κs = search needs
-
-verdict-requires : tie.Need-verdict-requires
-verdict-requires c κs = search needs
 
 returns-2 : tie.Need-returns-2
 returns-2 c =
@@ -80,13 +60,5 @@ returns-2 c =
 pub admit-time-spec : {M : Type 1} → statement M
 admit-time-spec =
     tie.close
-    (tie.spec
-    points-in-bound-requires
-    points-in-bound-requires-2
-    zero-to-one-requires
-    returns
-    points-finite-requires
-    points-finite-requires-2
-    is-finite-requires
-    verdict-requires
-    returns-2)
+    (tie.spec (search needs) (search needs) (search needs) returns (search needs) (search needs) (search needs)
+    (search needs) returns-2)

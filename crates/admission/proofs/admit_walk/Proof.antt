@@ -18,18 +18,6 @@ ranged-by : (x dx : List (List Float)) (split : ℕ) (l : Limits) (v a b r s : B
     → rangedWalk x dx split l ≡ v
 ranged-by x dx split l v a b r s ea eb er es e = rw (← ea, ← eb, ← er, ← es) e
 
-points-in-bound-requires : tie.Need-points-in-bound-requires
-points-in-bound-requires c κs = search needs
-
-points-in-bound-requires-2 : tie.Need-points-in-bound-requires-2
-points-in-bound-requires-2 c κs = search needs
-
-limits-ranged-requires : tie.Need-limits-ranged-requires
-limits-ranged-requires c κs = search needs
-
-is-split-requires : tie.Need-is-split-requires
-is-split-requires c κs = search needs
-
 returns : tie.Need-returns
 returns c =
     let l = c .before .before in
@@ -38,18 +26,6 @@ returns c =
     walk-none (a .x0) (a .dx) (a .split) (a .limits)
     (ranged-by (a .x0) (a .dx) (a .split) (a .limits) _ _ _ _ _ (p .points-in-bound .ensures)
     (l .before .points-in-bound2 .ensures) (l .limits-ranged .ensures) (c .before .is-split .ensures) (c .if1 .taken))
-
-points-finite-requires : tie.Need-points-finite-requires
-points-finite-requires c κs = search needs
-
-points-finite-requires-2 : tie.Need-points-finite-requires-2
-points-finite-requires-2 c κs = search needs
-
-limits-finite-requires : tie.Need-limits-finite-requires
-limits-finite-requires c κs = search needs
-
-verdict-requires : tie.Need-verdict-requires
-verdict-requires c κs = search needs
 
 returns-2 : tie.Need-returns-2
 returns-2 c =
@@ -68,14 +44,5 @@ returns-2 c =
 pub admit-walk-spec : {M : Type 1} → statement M
 admit-walk-spec =
     tie.close
-    (tie.spec
-    points-in-bound-requires
-    points-in-bound-requires-2
-    limits-ranged-requires
-    is-split-requires
-    returns
-    points-finite-requires
-    points-finite-requires-2
-    limits-finite-requires
-    verdict-requires
-    returns-2)
+    (tie.spec (search needs) (search needs) (search needs) (search needs) returns (search needs) (search needs)
+    (search needs) (search needs) returns-2)

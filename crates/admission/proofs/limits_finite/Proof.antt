@@ -4,18 +4,6 @@ use Rattle.admission.specs.Admission.{finiteLimits}
 use Rattle.admission.proofs.limits_finite.Statement.{statement}
 use Rattle.admission.proofs.limits_finite.Tie as tie
 
-is-finite-requires : tie.Need-is-finite-requires
-is-finite-requires c κs = search needs
-
-is-finite-requires-2 : tie.Need-is-finite-requires-2
-is-finite-requires-2 c κs = search needs
-
-is-finite-requires-3 : tie.Need-is-finite-requires-3
-is-finite-requires-3 c κs = search needs
-
-is-finite-requires-4 : tie.Need-is-finite-requires-4
-is-finite-requires-4 c κs = search needs
-
 returns : tie.Need-returns
 unfolding finiteLimits
 returns c =
@@ -28,10 +16,4 @@ returns c =
 
 pub limits-finite-spec : {M : Type 1} → statement M
 limits-finite-spec =
-    tie.close
-    (tie.spec
-    is-finite-requires
-    is-finite-requires-2
-    is-finite-requires-3
-    is-finite-requires-4
-    returns)
+    tie.close (tie.spec (search needs) (search needs) (search needs) (search needs) returns)

@@ -2,7 +2,6 @@
 -- handed over. Assumes nothing.
 use mathlib.Core.Path.{_≡_}
 use Prim.Native.Nat.{ℕ, _<_}
-use mathlib.Core.Bool.{Bool}
 use mathlib.Core.List.{List}
 use lib.Dec.{T, lit<}
 use lib.Ieee.{Float, binary32, fits}
@@ -11,14 +10,11 @@ use Rattle.number.specs.Number.{_⊕_, _⊗_, zero32}
 use Rattle.number.proofs.Units.{plus}
 use Rattle.number.proofs.Alike.{Alike, plus-same}
 use Rattle.number.proofs.Unmoved.{unmoved-alike}
+use Rattle.geometry.proofs.Bounds.{Each}
 use Rattle.geometry.specs.Geometry.{at, col, along, moved}
 use Rattle.distance.specs.Distance.{nearestOf}
 use Rattle.distance.proofs.Alike.Vectors.{AlikeVec, AlikePoints}
 use Rattle.distance.proofs.Alike.Distance.{nearest-alike}
-
--- each number of four points passes a test
-abbrev pub Each : (Float → Bool) → List (List Float) → Type 0
-Each test x = (i j : ℕ) → i < 4 → j < 3 → T (test (at (col x i) j))
 
 module _ (x dx : List (List Float)) (f : Each (fits binary32) x) (g : Each finite x) (h : Each finite dx) where
   unmoved-column : (i : ℕ) → i < 4 → AlikeVec (along (col x i) zero32 (col dx i)) (col x i)

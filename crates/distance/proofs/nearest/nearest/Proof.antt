@@ -13,5 +13,5 @@ returns-2 c = rw (split-other _ _ (c .before .if1 .left)) (c .face-vertex .ensur
 pub nearest-spec : {M : Type 1} → statement M
 nearest-spec =
     tie.close
-    (tie.spec (λ c. search needs) (λ c. search needs) (λ c. search needs) (λ c. search needs) (λ c κs. tt)
+    (tie.spec (search needs) (search needs) (search needs) (search needs) (λ c κs. tt)
     (λ c κs. tt) returns returns-2)

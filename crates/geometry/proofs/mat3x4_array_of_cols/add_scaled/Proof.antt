@@ -15,6 +15,6 @@ returns c =
 pub add-scaled-spec : {M : Type 1} → statement M
 add-scaled-spec =
     tie.close
-    (tie.spec (λ c. search needs) (λ c. search needs) (λ c. search needs) (λ c. search needs) (λ c. search needs)
-    (λ c. search needs) (λ c. search needs) (λ c. search needs) (λ c κs. tt) (λ c κs. tt) (λ c κs. tt) (λ c κs. tt)
+    (tie.spec (search needs) (search needs) (search needs) (search needs) (search needs)
+    (search needs) (search needs) (search needs) (λ c κs. tt) (λ c κs. tt) (λ c κs. tt) (λ c κs. tt)
     returns)

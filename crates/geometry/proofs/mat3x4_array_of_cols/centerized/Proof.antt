@@ -16,5 +16,5 @@ returns c =
 pub centerized-spec : {M : Type 1} → statement M
 centerized-spec =
     tie.close
-    (tie.spec (λ c. search needs) (λ c. search needs) (λ c. search needs) (λ c. search needs) (λ c κs. tt)
+    (tie.spec (search needs) (search needs) (search needs) (search needs) (λ c κs. tt)
     (λ c κs. tt) (λ c κs. tt) (λ c κs. tt) (λ c κs. tt) returns)

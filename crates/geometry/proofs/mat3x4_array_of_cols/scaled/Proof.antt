@@ -15,5 +15,5 @@ returns c =
 pub scaled-spec : {M : Type 1} → statement M
 scaled-spec =
     tie.close
-    (tie.spec (λ c. search needs) (λ c. search needs) (λ c. search needs) (λ c. search needs) (λ c κs. tt)
+    (tie.spec (search needs) (search needs) (search needs) (search needs) (λ c κs. tt)
     (λ c κs. tt) (λ c κs. tt) (λ c κs. tt) returns)

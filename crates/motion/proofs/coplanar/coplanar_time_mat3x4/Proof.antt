@@ -81,5 +81,5 @@ returns-2 c =
 pub coplanar-time-mat3x4-spec : {M : Type 1} → statement M
 coplanar-time-mat3x4-spec =
     tie.close
-    (tie.spec (λ c κs. search needs) (λ c κs. search needs) (λ c κs. search needs) (λ c κs. search needs) returns
+    (tie.spec (search needs) (search needs) (search needs) (search needs) returns
     returns-2)

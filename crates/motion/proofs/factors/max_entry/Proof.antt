@@ -1,14 +1,14 @@
 -- `motion::factors::max_entry` meets its contract: what the columns still to come make of the largest so far is what all
 -- four make of zero. Assumes nothing.
-use Prim.Native.Nat.{ℕ, _-_, _≤_}
+use Prim.Native.Nat.{ℕ, _+_, _-_, _≤_}
 use native.Mathlib.Omega.{arith}
-use mathlib.Core.Path.{_≡_, refl, _∙_}
+use mathlib.Core.Path.{_≡_, refl, sym, ap, _∙_}
 use mathlib.Core.List.{List, foldl}
 use lib.Ieee.{Float}
 use borrow.Author.Needs.{needs}
 use Rattle.geometry.specs.Geometry.{col, count}
 use Rattle.motion.specs.Scaling.{largerColumn, maxEntry}
-use Rattle.pair.proofs.Counting.{fold-turn, fold-done}
+use Rattle.geometry.proofs.CrossPairs.{count-next, count-done}
 use Rattle.motion.proofs.factors.max_entry.Statement.{statement}
 use Rattle.motion.proofs.factors.max_entry.Tie as tie
 
@@ -27,50 +27,24 @@ loop-holds : tie.Need-loop-holds Inv-loop μ-loop
 unfolding maxEntry
 loop-holds c = (search needs, refl)
 
-mul-v : tie.Need-mul-v Inv-loop μ-loop
-mul-v c = omega arith
-
-array-copy-out-v : tie.Need-array-copy-out-v Inv-loop μ-loop
-array-copy-out-v c = omega arith
-
-mul-d : tie.Need-mul-d Inv-loop μ-loop
-mul-d c = omega arith
-
-array-copy-out-d : tie.Need-array-copy-out-d Inv-loop μ-loop
-array-copy-out-d c = omega arith
-
-larger-column-requires : tie.Need-larger-column-requires Inv-loop μ-loop
-larger-column-requires c κs = search needs
-
-add-i : tie.Need-add-i Inv-loop μ-loop
-add-i c = omega arith
-
-loop-less : tie.Need-loop-less Inv-loop μ-loop
-loop-less c = omega arith
-
 loop-again : tie.Need-loop-again Inv-loop μ-loop
 loop-again c =
     let l = c .before .before .before .before .loop in
     let a = c .before .before .before .before .before .args in
-    let h : c .larger-column .result ≡ turn (a .t1) (a .t2) (a .max-t) (l .most) (l .i) = cc in
-    (omega arith, fold-turn (turn (a .t1) (a .t2) (a .max-t)) (l .i) 4 (l .most) _ (omega arith) h ∙ l .inv .1)
+    let next = turn (a .t1) (a .t2) (a .max-t) in
+    let h : c .larger-column .result ≡ next (l .most) (l .i) = cc in (
+      omega arith,
+      ap (λ (most : Float). foldl next most (count (l .i + 1) (4 - (l .i + 1)))) h
+          ∙ ap (foldl next (l .most)) (sym (count-next (l .i) 4 (omega arith))) ∙ l .inv .1,
+    )
 
 returns : tie.Need-returns Inv-loop μ-loop
-returns c = fold-done _ _ _ (c .before .loop .most) (omega arith) ∙ c .before .loop .inv .1
+returns c =
+    let l = c .before .loop in
+    ap (foldl _ (l .most)) (sym (count-done (l .i) 4 (omega arith))) ∙ l .inv .1
 
 pub max-entry-spec : {M : Type 1} → statement M
 max-entry-spec =
     tie.close
-    (tie.spec
-    Inv-loop
-    μ-loop
-    loop-holds
-    mul-v
-    array-copy-out-v
-    mul-d
-    array-copy-out-d
-    larger-column-requires
-    add-i
-    loop-less
-    loop-again
-    returns)
+    (tie.spec Inv-loop μ-loop loop-holds (λ c. omega arith) (λ c. omega arith) (λ c. omega arith)
+    (λ c. omega arith) (search needs) (λ c. omega arith) (λ c. omega arith) loop-again returns)

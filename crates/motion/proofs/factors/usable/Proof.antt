@@ -4,12 +4,9 @@ use Rattle.motion.specs.Scaling.{usable}
 use Rattle.motion.proofs.factors.usable.Statement.{statement}
 use Rattle.motion.proofs.factors.usable.Tie as tie
 
-is-finite-requires : tie.Need-is-finite-requires
-is-finite-requires c κs = search needs
-
 returns : tie.Need-returns
 unfolding usable
 returns c = rw (c .is-finite .ensures)
 
 pub usable-spec : {M : Type 1} → statement M
-usable-spec = tie.close (tie.spec is-finite-requires returns)
+usable-spec = tie.close (tie.spec (search needs) returns)

@@ -4,18 +4,6 @@ use Rattle.motion.specs.Scaling.{finitePair}
 use Rattle.motion.proofs.scaling.finite_pair.Statement.{statement}
 use Rattle.motion.proofs.scaling.finite_pair.Tie as tie
 
-x-of-requires : tie.Need-x-of-requires
-x-of-requires c κs = search needs
-
-dx-of-requires : tie.Need-dx-of-requires
-dx-of-requires c κs = search needs
-
-points-finite-requires : tie.Need-points-finite-requires
-points-finite-requires c κs = search needs
-
-points-finite-requires-2 : tie.Need-points-finite-requires-2
-points-finite-requires-2 c κs = search needs
-
 returns : tie.Need-returns
 unfolding finitePair
 returns c =
@@ -29,4 +17,4 @@ returns c =
 pub finite-pair-spec : {M : Type 1} → statement M
 finite-pair-spec =
     tie.close
-    (tie.spec x-of-requires dx-of-requires points-finite-requires points-finite-requires-2 returns)
+    (tie.spec (search needs) (search needs) (search needs) (search needs) returns)

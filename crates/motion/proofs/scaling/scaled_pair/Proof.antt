@@ -17,24 +17,9 @@ finite-of : (f : Float) (u : Bool) → u ≡ usable f → u ≡ true → isFinit
 unfolding usable
 finite-of f u e h = is-true (isFinite f) (and-l (isFinite f) (lt zero32 f) (subst T (sym h ∙ e) tt))
 
-admit-pair-requires : tie.Need-admit-pair-requires
-admit-pair-requires c κs = search needs
-
-refused-requires : tie.Need-refused-requires
-refused-requires c κs = search needs
-
 returns : tie.Need-returns
 returns c =
     c .refused .ensures ∙ by-admission _ _ _ (c .before .before .admit-pair .ensures) (c .before .if1 .taken)
-
-first-factor-requires : tie.Need-first-factor-requires
-first-factor-requires c κs = search needs
-
-usable-requires : tie.Need-usable-requires
-usable-requires c κs = search needs
-
-refused-requires-2 : tie.Need-refused-requires-2
-refused-requires-2 c κs = search needs
 
 returns-2 : tie.Need-returns-2
 returns-2 c =
@@ -46,15 +31,6 @@ returns-2 c =
 
 eighths-requires : tie.Need-eighths-requires
 eighths-requires c κs = finite-of _ _ (c .before .usable .ensures) (not-false _ (c .if2 .left))
-
-scaled-with-requires : tie.Need-scaled-with-requires
-scaled-with-requires c κs = search needs
-
-finite-pair-requires : tie.Need-finite-pair-requires
-finite-pair-requires c κs = search needs
-
-refused-requires-3 : tie.Need-refused-requires-3
-refused-requires-3 c κs = search needs
 
 returns-3 : tie.Need-returns-3
 returns-3 c =
@@ -80,17 +56,5 @@ returns-4 c =
 pub scaled-pair-spec : {M : Type 1} → statement M
 scaled-pair-spec =
     tie.close
-    (tie.spec
-    admit-pair-requires
-    refused-requires
-    returns
-    first-factor-requires
-    usable-requires
-    refused-requires-2
-    returns-2
-    eighths-requires
-    scaled-with-requires
-    finite-pair-requires
-    refused-requires-3
-    returns-3
-    returns-4)
+    (tie.spec (search needs) (search needs) returns (search needs) (search needs) (search needs) returns-2
+    eighths-requires (search needs) (search needs) (search needs) returns-3 returns-4)

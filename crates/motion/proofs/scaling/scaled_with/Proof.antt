@@ -17,21 +17,6 @@ made p q by x dx y dy qx qdx ey edy ex edx = λ i. record {
   dx = (qdx ∙ edy ∙ ap (scaledBy by) edx) i;
 }
 
-x-of-requires : tie.Need-x-of-requires
-x-of-requires c κs = search needs
-
-scaled-by-requires : tie.Need-scaled-by-requires
-scaled-by-requires c κs = search needs
-
-dx-of-requires : tie.Need-dx-of-requires
-dx-of-requires c κs = search needs
-
-scaled-by-requires-2 : tie.Need-scaled-by-requires-2
-scaled-by-requires-2 c κs = search needs
-
-pair-of-requires : tie.Need-pair-of-requires
-pair-of-requires c κs = search needs
-
 returns : tie.Need-returns
 returns c =
     let x = c .before .before .before in
@@ -40,11 +25,4 @@ returns c =
 
 pub scaled-with-spec : {M : Type 1} → statement M
 scaled-with-spec =
-    tie.close
-    (tie.spec
-    x-of-requires
-    scaled-by-requires
-    dx-of-requires
-    scaled-by-requires-2
-    pair-of-requires
-    returns)
+    tie.close (tie.spec (search needs) (search needs) (search needs) (search needs) (search needs) returns)

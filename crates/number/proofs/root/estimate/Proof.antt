@@ -19,9 +19,6 @@ float-from-bits-x c = no-nan-bits (c .args .b) (omega arith)
 float-to-float-x : tie.Need-float-to-float-x
 float-to-float-x c = widens (c .before .args .b) (omega arith)
 
-add-s0 : tie.Need-add-s0
-add-s0 c = search needs
-
 float-from-bits-s0 : tie.Need-float-from-bits-s0
 float-from-bits-s0 c = no-nan-bits (guess (c .before .args .b)) (omega arith)
 
@@ -31,25 +28,8 @@ float-to-float-s0 c = widens (guess (c .before .before .args .b)) (omega arith)
 float-to-bits-result : tie.Need-float-to-bits-result
 float-to-bits-result c = no-nan-le _ _ (subst T (sym (c .if1 .taken)) tt) .1
 
-add-result : tie.Need-add-result
-add-result c = search needs
-
-returns : tie.Need-returns
-returns c = search needs
-
-returns-2 : tie.Need-returns-2
-returns-2 c = search needs
-
 pub estimate-spec : {M : Type 1} → statement M
 estimate-spec =
     tie.close
-    (tie.spec
-    float-from-bits-x
-    float-to-float-x
-    add-s0
-    float-from-bits-s0
-    float-to-float-s0
-    float-to-bits-result
-    add-result
-    returns
-    returns-2)
+    (tie.spec float-from-bits-x float-to-float-x (search needs) float-from-bits-s0 float-to-float-s0
+    float-to-bits-result (search needs) (search needs) (search needs))

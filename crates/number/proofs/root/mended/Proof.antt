@@ -19,9 +19,6 @@ Inv-loop2 n guess root₀ rest₀ root rest = (root * root + rest ≡ n) × (roo
 abbrev μ-loop2 : tie.MeasureT-loop2
 μ-loop2 n guess root₀ rest₀ root rest = rest
 
-loop-holds : tie.Need-loop-holds Inv-loop μ-loop Inv-loop2 μ-loop2
-loop-holds c = omega arith
-
 mul-loop : tie.Need-mul-loop Inv-loop μ-loop Inv-loop2 μ-loop2
 mul-loop c = omega (arith, square-lt (c .loop .root) (c .loop .inv))
 
@@ -31,29 +28,11 @@ sub-root c = square-some (c .before .before .args .n) (c .before .loop .root) (c
 loop-less : tie.Need-loop-less Inv-loop μ-loop Inv-loop2 μ-loop2
 loop-less c = omega (arith, square-some (c .before .before .args .n) (c .before .loop .root) (c .loop-test .taken))
 
-loop-again : tie.Need-loop-again Inv-loop μ-loop Inv-loop2 μ-loop2
-loop-again c = omega arith
-
 mul-rest : tie.Need-mul-rest Inv-loop μ-loop Inv-loop2 μ-loop2
 mul-rest c = omega (arith, square-lt (c .before .loop .root) (c .before .loop .inv))
 
-sub-rest : tie.Need-sub-rest Inv-loop μ-loop Inv-loop2 μ-loop2
-sub-rest c = omega arith
-
 loop2-holds : tie.Need-loop2-holds Inv-loop μ-loop Inv-loop2 μ-loop2
 loop2-holds c = (omega arith, omega arith)
-
-add-rest : tie.Need-add-rest Inv-loop μ-loop Inv-loop2 μ-loop2
-add-rest c = omega arith
-
-sub-rest-2 : tie.Need-sub-rest-2 Inv-loop μ-loop Inv-loop2 μ-loop2
-sub-rest-2 c = omega arith
-
-add-root : tie.Need-add-root Inv-loop μ-loop Inv-loop2 μ-loop2
-add-root c = omega arith
-
-loop2-less : tie.Need-loop2-less Inv-loop μ-loop Inv-loop2 μ-loop2
-loop2-less c = omega arith
 
 loop2-again : tie.Need-loop2-again Inv-loop μ-loop Inv-loop2 μ-loop2
 loop2-again c =
@@ -68,22 +47,6 @@ returns c = (omega arith, omega arith)
 pub mended-spec : {M : Type 1} → statement M
 mended-spec =
     tie.close
-    (tie.spec
-    Inv-loop
-    μ-loop
-    Inv-loop2
-    μ-loop2
-    loop-holds
-    mul-loop
-    sub-root
-    loop-less
-    loop-again
-    mul-rest
-    sub-rest
-    loop2-holds
-    add-rest
-    sub-rest-2
-    add-root
-    loop2-less
-    loop2-again
-    returns)
+    (tie.spec Inv-loop μ-loop Inv-loop2 μ-loop2 (λ c. omega arith) mul-loop sub-root loop-less (λ c. omega arith)
+    mul-rest (λ c. omega arith) loop2-holds (λ c. omega arith) (λ c. omega arith) (λ c. omega arith)
+    (λ c. omega arith) loop2-again returns)

@@ -63,18 +63,6 @@ float-from-bits-result c =
     no-nan-bits b
     (omega (arith, bits-lt (d * 2 ^ lift d) (24 - lift d) b (u .low) (u .high) (omega arith) (raised-made c)))
 
-sub-root-bits-2 : tie.Need-sub-root-bits-2
-sub-root-bits-2 c = search needs
-
-sub-root-bits-3 : tie.Need-sub-root-bits-3
-sub-root-bits-3 c = search needs
-
-add-root-bits : tie.Need-add-root-bits
-add-root-bits c = search needs
-
-root-bits-requires-2 : tie.Need-root-bits-requires-2
-root-bits-requires-2 c κs = search needs
-
 -- ---- a normal argument
 normal : (c : tie.After-root-bits2) → bits (c .before .before .before .before) < 2139095040
 normal c = omega arith
@@ -132,19 +120,6 @@ returns-4 c = not-above (c .before .args .x) (c .if1 .left)
 pub root-spec : {M : Type 1} → statement M
 root-spec =
     tie.close
-    (tie.spec
-    float-to-bits-b
-    sub-z
-    shl-root-bits
-    sub-root-bits
-    root-bits-requires
-    float-from-bits-result
-    sub-root-bits-2
-    sub-root-bits-3
-    add-root-bits
-    root-bits-requires-2
-    float-from-bits-result-2
-    returns
-    returns-2
-    returns-3
-    returns-4)
+    (tie.spec float-to-bits-b sub-z shl-root-bits sub-root-bits root-bits-requires float-from-bits-result
+    (search needs) (search needs) (search needs) (search needs) float-from-bits-result-2 returns returns-2
+    returns-3 returns-4)

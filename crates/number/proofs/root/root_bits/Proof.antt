@@ -9,27 +9,6 @@ use Rattle.number.proofs.SquareRoot.Digits.{code-whole, whole-lt, root-
 use Rattle.number.proofs.root.root_bits.Statement.{statement}
 use Rattle.number.proofs.root.root_bits.Tie as tie
 
-sub-odd : tie.Need-sub-odd
-sub-odd c = search needs
-
-add-whole-root : tie.Need-add-whole-root
-add-whole-root c = search needs
-
-cast-whole-root : tie.Need-cast-whole-root
-cast-whole-root c = search needs
-
-shl-whole-root : tie.Need-shl-whole-root
-shl-whole-root c = search needs
-
-add-estimate : tie.Need-add-estimate
-add-estimate c = search needs
-
-add-estimate-2 : tie.Need-add-estimate-2
-add-estimate-2 c = search needs
-
-estimate-requires : tie.Need-estimate-requires
-estimate-requires c κs = search needs
-
 whole-root-requires : tie.Need-whole-root-requires
 whole-root-requires c κs =
     let s = c .before in
@@ -55,9 +34,6 @@ small c =
 
 cast-root : tie.Need-cast-root
 cast-root c = omega (arith, small (c .before))
-
-add-base : tie.Need-add-base
-add-base c = search needs
 
 add-result : tie.Need-add-result
 add-result c = omega (arith, small (c .before .before .before))
@@ -88,19 +64,6 @@ returns-2 c =
 pub root-bits-spec : {M : Type 1} → statement M
 root-bits-spec =
     tie.close
-    (tie.spec
-    sub-odd
-    add-whole-root
-    cast-whole-root
-    shl-whole-root
-    add-estimate
-    add-estimate-2
-    estimate-requires
-    whole-root-requires
-    cast-root
-    add-base
-    add-result
-    add-result-2
-    add-result-3
-    returns
+    (tie.spec (search needs) (search needs) (search needs) (search needs) (search needs) (search needs)
+    (search needs) whole-root-requires cast-root (search needs) add-result add-result-2 add-result-3 returns
     returns-2)

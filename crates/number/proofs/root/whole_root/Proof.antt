@@ -9,4 +9,4 @@ mul-square : tie.Need-mul-square
 mul-square c = omega (arith, square-lt (c .args .guess) (c .pre .1))
 
 pub whole-root-spec : {M : Type 1} → statement M
-whole-root-spec = tie.close (tie.spec mul-square (λ c. search needs) (λ c κs. search needs) (λ c. search needs))
+whole-root-spec = tie.close (tie.spec mul-square (search needs) (search needs) (search needs))

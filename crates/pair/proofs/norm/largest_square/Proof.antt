@@ -1,124 +1,81 @@
--- `pair::norm::largest_square` meets its contract. What the columns still to come make of the largest so far is what
--- all of them make of zero, in the loop over either side; the measures are how many are still to come.
--- Assumes nothing.
-use Prim.Native.Nat.{ℕ, _-_, _≤_}
-use native.Mathlib.Omega.{arith}
+-- `pair::norm::largest_square` meets its contract: what the cross pairs still to come make of the largest so far is
+-- what all of them make of zero. The measures are how many columns are still to come. Assumes nothing.
+use Prim.Native.Nat.{ℕ, _+_, _-_, _≤_, _<_}
 use native.Mathlib.Nat.{sub-zero}
-use mathlib.Core.Path.{_≡_, refl, _∙_}
+use native.Mathlib.Omega.{arith}
+use mathlib.Core.Path.{_≡_, sym, ap, _∙_}
 use mathlib.Core.List.{List, foldl}
 use lib.Ieee.{Float}
 use borrow.Author.Needs.{needs}
 use Rattle.number.specs.Number.{larger}
-use Rattle.geometry.specs.Geometry.{count}
-use Rattle.pair.specs.Norm.{gapSquare, against, largestSquare}
-use Rattle.pair.proofs.Counting.{fold-turn, fold-done}
+use Rattle.geometry.specs.Geometry.{Cross, cross, crossPairs}
+use Rattle.geometry.proofs.CrossPairs.{rows, rest, row-next, row-done, rows-next, rows-done}
+use Rattle.pair.specs.Points.{gapSquare, largestSquare}
 use Rattle.pair.proofs.norm.largest_square.Statement.{statement}
 use Rattle.pair.proofs.norm.largest_square.Tie as tie
 
--- one column more of the other side, against column i
-abbrev turn : List (List Float) → ℕ → Float → ℕ → Float
-turn x i m j = larger m (gapSquare x i j)
+-- one cross pair more
+abbrev turn : List (List Float) → Float → Cross → Float
+turn x most p = larger most (gapSquare x p)
+
+-- the pairs ps make of the largest so far what all the pairs make of zero
+abbrev Left : List (List Float) → ℕ → List Cross → Float → Type 0
+Left x split ps most = foldl (turn x) most ps ≡ largestSquare x split
+
+-- the same of other pairs that are equal
+turned : (x : List (List Float)) (split : ℕ) (ps qs : List Cross) (most : Float) → ps ≡ qs → Left x split ps most
+    → Left x split qs most
+turned x split ps qs most e h = ap (foldl (turn x) most) (sym e) ∙ h
 
 abbrev Inv-loop2 : tie.InvT-loop2
-Inv-loop2 split x largest₀ i j₀ largest j =
-    (split ≤ j) × (against x (count j (4 - j)) largest i ≡ against x (count split (4 - split)) largest₀ i)
+Inv-loop2 split x largest₀ i j₀ largest j = (i < split) × (split ≤ j) × Left x split (rest split i j) largest
 
 abbrev μ-loop2 : tie.MeasureT-loop2
 μ-loop2 split x largest₀ i j₀ largest j = 4 - j
 
 abbrev Inv-loop : tie.InvT-loop
-Inv-loop split x largest₀ i₀ largest i =
-    (i ≤ split) × (foldl (against x (count split (4 - split))) largest (count i (split - i)) ≡ largestSquare x split)
+Inv-loop split x largest₀ i₀ largest i = (i ≤ split) × Left x split (rows split i) largest
 
 abbrev μ-loop : tie.MeasureT-loop
 μ-loop split x largest₀ i₀ largest i = split - i
 
 loop-holds : tie.Need-loop-holds Inv-loop2 μ-loop2 Inv-loop μ-loop
-unfolding largestSquare
+unfolding largestSquare crossPairs
 loop-holds c = (search needs, rw sub-zero)
 
 loop2-holds : tie.Need-loop2-holds Inv-loop2 μ-loop2 Inv-loop μ-loop
-loop2-holds c = (search needs, refl)
-
-mul-xi : tie.Need-mul-xi Inv-loop2 μ-loop2 Inv-loop μ-loop
-mul-xi c = omega arith
-
-array-copy-out-xi : tie.Need-array-copy-out-xi Inv-loop2 μ-loop2 Inv-loop μ-loop
-array-copy-out-xi c = omega arith
-
-mul-xj : tie.Need-mul-xj Inv-loop2 μ-loop2 Inv-loop μ-loop
-mul-xj c = omega arith
-
-array-copy-out-xj : tie.Need-array-copy-out-xj Inv-loop2 μ-loop2 Inv-loop μ-loop
-array-copy-out-xj c = omega arith
-
-sub-requires : tie.Need-sub-requires Inv-loop2 μ-loop2 Inv-loop μ-loop
-sub-requires c κs = search needs
-
-dot-requires : tie.Need-dot-requires Inv-loop2 μ-loop2 Inv-loop μ-loop
-dot-requires c κs = search needs
-
-larger-requires : tie.Need-larger-requires Inv-loop2 μ-loop2 Inv-loop μ-loop
-larger-requires c κs = search needs
-
-add-j : tie.Need-add-j Inv-loop2 μ-loop2 Inv-loop μ-loop
-add-j c = omega arith
-
-loop2-less : tie.Need-loop2-less Inv-loop2 μ-loop2 Inv-loop μ-loop
-loop2-less c = omega arith
+loop2-holds c =
+    let l = c .before .loop in
+    (omega arith, omega arith, turned _ _ _ _ (l .largest) (rows-next _ (l .i) (omega arith)) (l .inv .1))
 
 loop2-again : tie.Need-loop2-again Inv-loop2 μ-loop2 Inv-loop μ-loop
 unfolding gapSquare
 loop2-again c =
     let l = c .before .before .before .before .before .before in
-    let x = l .before .before .before .args .t1 in
+    let a = l .before .before .before .args in
     let i = l .before .before .loop .i in
-    let m = l .loop2 .largest in
     let j = l .loop2 .j in
-    let h : c .larger .result ≡ turn x i m j = cc in
-    (omega arith, fold-turn (turn x i) j 4 m _ (omega arith) h ∙ l .loop2 .inv .1)
-
-add-i : tie.Need-add-i Inv-loop2 μ-loop2 Inv-loop μ-loop
-add-i c = omega arith
-
-loop-less : tie.Need-loop-less Inv-loop2 μ-loop2 Inv-loop μ-loop
-loop-less c = omega arith
+    let h : c .larger .result ≡ turn (a .t1) (l .loop2 .largest) (cross i j) = cc in (
+      omega arith,
+      omega arith,
+      ap (λ (most : Float). foldl (turn (a .t1)) most (rest (a .split) i (j + 1))) h
+          ∙ turned _ _ _ _ (l .loop2 .largest) (row-next (a .split) i j (omega arith)) (l .loop2 .inv .2),
+    )
 
 loop-again : tie.Need-loop-again Inv-loop2 μ-loop2 Inv-loop μ-loop
 loop-again c =
-    let l = c .before .before .before .loop in
-    let split = c .before .before .before .before .args .split in
-    let x = c .before .before .before .before .args .t1 in
-    let m = c .before .loop2 .largest in
-    let over = against x (count split (4 - split)) in
-    let done = fold-done (turn x (l .i)) (c .before .loop2 .j) 4 m (omega arith) in
-    let h : m ≡ over (l .largest) (l .i) = done ∙ c .before .loop2 .inv .1 in
-    (omega arith, fold-turn over (l .i) split (l .largest) m (omega arith) h ∙ l .inv .1)
+    let l = c .before .loop2 in
+    let i = c .before .before .before .loop .i in
+    (omega arith, turned _ _ _ _ (l .largest) (row-done _ i (l .j) (omega arith)) (l .inv .2))
 
 returns : tie.Need-returns Inv-loop2 μ-loop2 Inv-loop μ-loop
-returns c = fold-done _ _ _ (c .before .loop .largest) (omega arith) ∙ c .before .loop .inv .1
+returns c =
+    let l = c .before .loop in
+    turned _ _ _ _ (l .largest) (rows-done _ (l .i) (omega arith)) (l .inv .1)
 
 pub largest-square-spec : {M : Type 1} → statement M
 largest-square-spec =
     tie.close
-    (tie.spec
-    Inv-loop2
-    μ-loop2
-    Inv-loop
-    μ-loop
-    loop-holds
-    loop2-holds
-    mul-xi
-    array-copy-out-xi
-    mul-xj
-    array-copy-out-xj
-    sub-requires
-    dot-requires
-    larger-requires
-    add-j
-    loop2-less
-    loop2-again
-    add-i
-    loop-less
-    loop-again
-    returns)
+    (tie.spec Inv-loop2 μ-loop2 Inv-loop μ-loop loop-holds loop2-holds (λ c. omega arith) (λ c. omega arith)
+    (λ c. omega arith) (λ c. omega arith) (search needs) (search needs) (search needs) (λ c. omega arith)
+    (λ c. omega arith) loop2-again (λ c. omega arith) (λ c. omega arith) loop-again returns)

@@ -17,4 +17,4 @@ returns-2 : tie.Need-returns-2
 returns-2 c = norm-clauses _ _ _ (answered-refused _ _ _ (c .before .admit-split .ensures) (c .if1 .left))
 
 pub max-relative-norm-spec : {M : Type 1} → statement M
-max-relative-norm-spec = tie.close (tie.spec (λ c κs. search needs) (λ c κs. search needs) returns returns-2)
+max-relative-norm-spec = tie.close (tie.spec (search needs) (search needs) returns returns-2)

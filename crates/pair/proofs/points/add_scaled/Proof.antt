@@ -7,12 +7,6 @@ use Rattle.number.proofs.Answers.{taken, refused}
 use Rattle.pair.proofs.points.add_scaled.Statement.{statement}
 use Rattle.pair.proofs.points.add_scaled.Tie as tie
 
-admit-time-requires : tie.Need-admit-time-requires
-admit-time-requires c κs = search needs
-
-add-scaled-requires : tie.Need-add-scaled-requires
-add-scaled-requires c κs = search needs
-
 returns : tie.Need-returns
 unfolding movedInto
 returns c =
@@ -26,4 +20,4 @@ returns-2 c =
     with-finite _ _ _ _ e (refused _ _ _ _ e (c .if1 .left)) (moved-finite _ _ _ _)
 
 pub add-scaled-spec : {M : Type 1} → statement M
-add-scaled-spec = tie.close (tie.spec admit-time-requires add-scaled-requires returns returns-2)
+add-scaled-spec = tie.close (tie.spec (search needs) (search needs) returns returns-2)

@@ -7,12 +7,6 @@ use Rattle.number.proofs.Answers.{taken, refused}
 use Rattle.pair.proofs.points.centerize.Statement.{statement}
 use Rattle.pair.proofs.points.centerize.Tie as tie
 
-admit-points-requires : tie.Need-admit-points-requires
-admit-points-requires c κs = search needs
-
-centerized-requires : tie.Need-centerized-requires
-centerized-requires c κs = search needs
-
 returns : tie.Need-returns
 unfolding centredIn
 returns c =
@@ -26,4 +20,4 @@ returns-2 c =
     with-finite _ _ _ _ e (refused _ _ _ _ e (c .if1 .left)) (centred-finite _)
 
 pub centerize-spec : {M : Type 1} → statement M
-centerize-spec = tie.close (tie.spec admit-points-requires centerized-requires returns returns-2)
+centerize-spec = tie.close (tie.spec (search needs) (search needs) returns returns-2)

@@ -5,21 +5,18 @@ use mathlib.Core.List.{List}
 use lib.Dec.{T}
 use lib.Ieee.{Float}
 use borrow.Author.Needs.{needs}
-use Rattle.number.specs.Number.{zero32, isFinite, admitted}
-use Rattle.geometry.specs.Geometry.{vec, lerpOf}
+use Rattle.number.specs.Number.{isFinite, admitted}
+use Rattle.geometry.specs.Geometry.{lerpOf}
 use Rattle.pair.specs.declared.points.Placed.{Placed}
 use Rattle.admission.specs.Admission.{ofThree, ratioRefusal}
-use Rattle.pair.specs.Points.{placed}
+use Rattle.pair.specs.Points.{placed, zeros}
 use Rattle.pair.proofs.StayFinite.{place-finite}
 use Rattle.number.proofs.Answers.{taken, refused}
 use Rattle.pair.proofs.points.lerp.Statement.{statement}
 use Rattle.pair.proofs.points.lerp.Tie as tie
 
 module _ (p q : List Float) (s : Float) (n : ℕ) (e : n ≡ ratioRefusal p q s) where
-  abbrev Zeros : List Float
-  Zeros = vec zero32 zero32 zero32
-
-  made : (v : List Float) → v ≡ admitted (ratioRefusal p q s) (lerpOf p q s) Zeros
+  made : (v : List Float) → v ≡ admitted (ratioRefusal p q s) (lerpOf p q s) zeros
       → let r : Placed = record { refusal = n; point = v } in
       (r ≡ placed p q s) × (n ≡ 0 → T (ofThree isFinite v))
   unfolding placed
@@ -27,12 +24,6 @@ module _ (p q : List Float) (s : Float) (n : ℕ) (e : n ≡ ratioRefusal p q s)
     λ i. record { refusal = e i; point = h i },
     λ z. subst (λ (v : List Float). T (ofThree isFinite v)) (sym h) (place-finite p q s (sym e ∙ z)),
   )
-
-admit-ratio-requires : tie.Need-admit-ratio-requires
-admit-ratio-requires c κs = search needs
-
-lerp-requires : tie.Need-lerp-requires
-lerp-requires c κs = search needs
 
 returns : tie.Need-returns
 returns c =
@@ -43,4 +34,4 @@ returns-2 : tie.Need-returns-2
 returns-2 c = let e = c .before .admit-ratio .ensures in made _ _ _ _ e _ (refused _ _ _ _ e (c .if1 .left))
 
 pub lerp-spec : {M : Type 1} → statement M
-lerp-spec = tie.close (tie.spec admit-ratio-requires lerp-requires returns returns-2)
+lerp-spec = tie.close (tie.spec (search needs) (search needs) returns returns-2)

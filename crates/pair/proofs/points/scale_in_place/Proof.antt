@@ -7,12 +7,6 @@ use Rattle.number.proofs.Answers.{taken, refused}
 use Rattle.pair.proofs.points.scale_in_place.Statement.{statement}
 use Rattle.pair.proofs.points.scale_in_place.Tie as tie
 
-admit-factor-requires : tie.Need-admit-factor-requires
-admit-factor-requires c κs = search needs
-
-scaled-requires : tie.Need-scaled-requires
-scaled-requires c κs = search needs
-
 returns : tie.Need-returns
 unfolding scaledIn
 returns c =
@@ -26,4 +20,4 @@ returns-2 c =
     with-finite _ _ _ _ e (refused _ _ _ _ e (c .if1 .left)) (scaled-finite _ _)
 
 pub scale-in-place-spec : {M : Type 1} → statement M
-scale-in-place-spec = tie.close (tie.spec admit-factor-requires scaled-requires returns returns-2)
+scale-in-place-spec = tie.close (tie.spec (search needs) (search needs) returns returns-2)

@@ -34,12 +34,6 @@ module _ (x : List (List Float)) (split : ℕ) (n : ℕ) (e : n ≡ splitRefusal
       (λ i. refusedBy (e i))
       ∙ refused (foundAt x split) (refusedBy (splitRefusal x split)) (splitRefusal x split) n e z
 
-admit-split-requires : tie.Need-admit-split-requires
-admit-split-requires c κs = search needs
-
-nearest-requires : tie.Need-nearest-requires
-nearest-requires c κs = search needs
-
 returns : tie.Need-returns
 returns c =
     let z = c .before .before in
@@ -50,4 +44,4 @@ returns-2 c = by-refusal _ _ _ (c .before .admit-split .ensures) (c .if1 .left)
 
 pub squared-distance-spec : {M : Type 1} → statement M
 squared-distance-spec =
-    tie.close (tie.spec admit-split-requires nearest-requires returns returns-2)
+    tie.close (tie.spec (search needs) (search needs) returns returns-2)

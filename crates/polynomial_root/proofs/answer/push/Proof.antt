@@ -9,21 +9,6 @@ returns : tie.Need-returns
 unfolding push
 returns c = rw (le-ltb _ _ (c .if1 .taken))
 
-written-requires : tie.Need-written-requires
-written-requires c κs = search needs
-
-cast-roots : tie.Need-cast-roots
-cast-roots c = search needs
-
-mul-roots : tie.Need-mul-roots
-mul-roots c = search needs
-
-array-write-roots : tie.Need-array-write-roots
-array-write-roots c = search needs
-
-add-t11 : tie.Need-add-t11
-add-t11 c = search needs
-
 returns-2 : tie.Need-returns-2
 unfolding push
 returns-2 c = rw (lt-ltb _ _ (c .before .before .if1 .left)) (cc)
@@ -31,4 +16,4 @@ returns-2 c = rw (lt-ltb _ _ (c .before .before .if1 .left)) (cc)
 pub push-spec : {M : Type 1} → statement M
 push-spec =
     tie.close
-    (tie.spec returns written-requires cast-roots mul-roots array-write-roots add-t11 returns-2)
+    (tie.spec returns (search needs) (search needs) (search needs) (search needs) (search needs) returns-2)

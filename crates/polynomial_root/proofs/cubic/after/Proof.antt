@@ -5,9 +5,6 @@ use Rattle.polynomial_root.specs.Cubic.{after}
 use Rattle.polynomial_root.proofs.cubic.after.Statement.{statement}
 use Rattle.polynomial_root.proofs.cubic.after.Tie as tie
 
-joined-requires : tie.Need-joined-requires
-joined-requires c κs = search needs
-
 returns : tie.Need-returns
 unfolding after
 returns c = rw (eq-eqb _ _ (c .before .if1 .taken)) (c .joined .ensures)
@@ -17,4 +14,4 @@ unfolding after
 returns-2 c = rw (ne-eqb _ _ (c .if1 .left))
 
 pub after-spec : {M : Type 1} → statement M
-after-spec = tie.close (tie.spec joined-requires returns returns-2)
+after-spec = tie.close (tie.spec (search needs) returns returns-2)

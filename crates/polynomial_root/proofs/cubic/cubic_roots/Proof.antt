@@ -5,18 +5,6 @@ use Rattle.polynomial_root.specs.Cubic.{cubicRoots}
 use Rattle.polynomial_root.proofs.cubic.cubic_roots.Statement.{statement}
 use Rattle.polynomial_root.proofs.cubic.cubic_roots.Tie as tie
 
-vanishes-requires : tie.Need-vanishes-requires
-vanishes-requires c κs = search needs
-
-lower-roots-requires : tie.Need-lower-roots-requires
-lower-roots-requires c κs = search needs
-
-solve-requires : tie.Need-solve-requires
-solve-requires c κs = search needs
-
-span-roots-requires : tie.Need-span-roots-requires
-span-roots-requires c κs = search needs
-
 returns : tie.Need-returns
 unfolding cubicRoots
 returns c = rw (← c .before .before .vanishes .ensures, c .before .if1 .taken) (c .lower-roots .ensures)
@@ -30,11 +18,4 @@ returns-2 c =
 
 pub cubic-roots-spec : {M : Type 1} → statement M
 cubic-roots-spec =
-    tie.close
-    (tie.spec
-    vanishes-requires
-    lower-roots-requires
-    solve-requires
-    span-roots-requires
-    returns
-    returns-2)
+    tie.close (tie.spec (search needs) (search needs) (search needs) (search needs) returns returns-2)

@@ -4,48 +4,6 @@ use Rattle.polynomial_root.specs.Cubic.{spanRoots}
 use Rattle.polynomial_root.proofs.cubic.span_roots.Statement.{statement}
 use Rattle.polynomial_root.proofs.cubic.span_roots.Tie as tie
 
-enum-told : tie.Need-enum-told
-enum-told c = search needs
-
-refused-requires : tie.Need-refused-requires
-refused-requires c κs = search needs
-
-start-requires : tie.Need-start-requires
-start-requires c κs = search needs
-
-end-at-requires : tie.Need-end-at-requires
-end-at-requires c κs = search needs
-
-span-root-requires : tie.Need-span-root-requires
-span-root-requires c κs = search needs
-
-after-requires : tie.Need-after-requires
-after-requires c κs = search needs
-
-enum-known-s : tie.Need-enum-known-s
-enum-known-s c = search needs
-
-refused-requires-2 : tie.Need-refused-requires-2
-refused-requires-2 c κs = search needs
-
-first-span-requires : tie.Need-first-span-requires
-first-span-requires c κs = search needs
-
-after-requires-2 : tie.Need-after-requires-2
-after-requires-2 c κs = search needs
-
-middle-span-requires : tie.Need-middle-span-requires
-middle-span-requires c κs = search needs
-
-after-requires-3 : tie.Need-after-requires-3
-after-requires-3 c κs = search needs
-
-last-span-requires : tie.Need-last-span-requires
-last-span-requires c κs = search needs
-
-after-requires-4 : tie.Need-after-requires-4
-after-requires-4 c κs = search needs
-
 returns : tie.Need-returns
 unfolding spanRoots
 returns c =
@@ -64,39 +22,36 @@ returns c =
 returns-2 : tie.Need-returns-2
 unfolding spanRoots
 returns-2 c =
-    let l = c .before in
-    let m = l .before in
-    let n = m .before in
-    let a = n .before in
-    let f = a .before in
+    let done = c .before .before .before in
+    let last = done .before in
+    let middle = last .before .before .before .before in
+    let first = middle .before .before .before .before .before in
+    let cut = first .before .before .before in
     rw (
-      f .before .before .before .s .given .1,
+      cut .before .before .s .given .1,
       c .after4 .ensures,
-      m .after3 .ensures,
-      a .after2 .ensures,
-      f .before .refused2 .ensures,
-      f .first-span .ensures,
-      n .middle-span .ensures,
-      l .last-span .ensures,
+      c .before .after3 .ensures,
+      c .before .before .after2 .ensures,
+      done .refused2 .ensures,
+      first .part-root .ensures,
+      first .before .start2 .ensures,
+      first .before .before .end-at2 .ensures,
+      cut .smaller .ensures,
+      middle .part-root2 .ensures,
+      middle .before .end-at4 .ensures,
+      middle .before .before .smaller2 .ensures,
+      middle .before .before .before .end-at3 .ensures,
+      middle .before .before .before .before .larger .ensures,
+      last .part-root3 .ensures,
+      last .before .end-at6 .ensures,
+      last .before .before .end-at5 .ensures,
+      last .before .before .before .larger2 .ensures,
     )
 
 pub span-roots-spec : {M : Type 1} → statement M
 span-roots-spec =
     tie.close
-    (tie.spec
-    enum-told
-    refused-requires
-    start-requires
-    end-at-requires
-    span-root-requires
-    after-requires
-    enum-known-s
-    refused-requires-2
-    first-span-requires
-    after-requires-2
-    middle-span-requires
-    after-requires-3
-    last-span-requires
-    after-requires-4
-    returns
-    returns-2)
+    (tie.spec (search needs) (search needs) (search needs) (search needs) (search needs) (search needs)
+    (search needs) (search needs) (search needs) (search needs) (search needs) (search needs) (search needs)
+    (search needs) (search needs) (search needs) (search needs) (search needs) (search needs) (search needs)
+    (search needs) (search needs) (search needs) (search needs) returns returns-2)

@@ -4,9 +4,6 @@ use Rattle.polynomial_root.specs.Cubic.{keep}
 use Rattle.polynomial_root.proofs.lower.keep.Statement.{statement}
 use Rattle.polynomial_root.proofs.lower.keep.Tie as tie
 
-push-requires : tie.Need-push-requires
-push-requires c κs = search needs
-
 returns : tie.Need-returns
 unfolding keep
 returns c = rw (c .before .if1 .taken) (c .push .ensures)
@@ -16,4 +13,4 @@ unfolding keep
 returns-2 c = rw (c .if1 .left)
 
 pub keep-spec : {M : Type 1} → statement M
-keep-spec = tie.close (tie.spec push-requires returns returns-2)
+keep-spec = tie.close (tie.spec (search needs) returns returns-2)

@@ -4,18 +4,6 @@ use Rattle.polynomial_root.specs.Cubic.{linearRoots}
 use Rattle.polynomial_root.proofs.lower.linear_roots.Statement.{statement}
 use Rattle.polynomial_root.proofs.lower.linear_roots.Tie as tie
 
-refused-requires : tie.Need-refused-requires
-refused-requires c κs = search needs
-
-refused-requires-2 : tie.Need-refused-requires-2
-refused-requires-2 c κs = search needs
-
-push-requires : tie.Need-push-requires
-push-requires c κs = search needs
-
-refused-requires-3 : tie.Need-refused-requires-3
-refused-requires-3 c κs = search needs
-
 returns : tie.Need-returns
 unfolding linearRoots
 returns c = rw (c .before .before .if1 .taken, c .before .if2 .taken) (c .refused .ensures)
@@ -32,12 +20,4 @@ returns-3 c = rw (c .before .if1 .left) (c .refused3 .ensures)
 
 pub linear-roots-spec : {M : Type 1} → statement M
 linear-roots-spec =
-    tie.close
-    (tie.spec
-    refused-requires
-    refused-requires-2
-    push-requires
-    refused-requires-3
-    returns
-    returns-2
-    returns-3)
+    tie.close (tie.spec (search needs) (search needs) (search needs) (search needs) returns returns-2 returns-3)

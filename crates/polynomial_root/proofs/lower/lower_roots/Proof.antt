@@ -5,27 +5,6 @@ use Rattle.polynomial_root.specs.Cubic.{lowerRoots}
 use Rattle.polynomial_root.proofs.lower.lower_roots.Statement.{statement}
 use Rattle.polynomial_root.proofs.lower.lower_roots.Tie as tie
 
-vanishes-requires : tie.Need-vanishes-requires
-vanishes-requires c κs = search needs
-
-vanishes-requires-2 : tie.Need-vanishes-requires-2
-vanishes-requires-2 c κs = search needs
-
-constant-roots-requires : tie.Need-constant-roots-requires
-constant-roots-requires c κs = search needs
-
-value-at-requires : tie.Need-value-at-requires
-value-at-requires c κs = search needs
-
-linear-roots-requires : tie.Need-linear-roots-requires
-linear-roots-requires c κs = search needs
-
-solve-requires : tie.Need-solve-requires
-solve-requires c κs = search needs
-
-kept-roots-requires : tie.Need-kept-roots-requires
-kept-roots-requires c κs = search needs
-
 returns : tie.Need-returns
 unfolding lowerRoots
 returns c =
@@ -57,14 +36,5 @@ returns-3 c =
 pub lower-roots-spec : {M : Type 1} → statement M
 lower-roots-spec =
     tie.close
-    (tie.spec
-    vanishes-requires
-    vanishes-requires-2
-    constant-roots-requires
-    value-at-requires
-    linear-roots-requires
-    solve-requires
-    kept-roots-requires
-    returns
-    returns-2
-    returns-3)
+    (tie.spec (search needs) (search needs) (search needs) (search needs) (search needs) (search needs)
+    (search needs) returns returns-2 returns-3)

@@ -3,11 +3,8 @@ use borrow.Author.Needs.{needs}
 use Rattle.polynomial_root.proofs.lower.vanishes.Statement.{statement}
 use Rattle.polynomial_root.proofs.lower.vanishes.Tie as tie
 
-size-requires : tie.Need-size-requires
-size-requires c κs = search needs
-
 returns : tie.Need-returns
 returns c = rw (c .size .ensures)
 
 pub vanishes-spec : {M : Type 1} → statement M
-vanishes-spec = tie.close (tie.spec size-requires returns)
+vanishes-spec = tie.close (tie.spec (search needs) returns)

@@ -4,24 +4,6 @@ use Rattle.polynomial_root.specs.Finder.{solvedRoots}
 use Rattle.polynomial_root.proofs.quadratic.all_roots.Statement.{statement}
 use Rattle.polynomial_root.proofs.quadratic.all_roots.Tie as tie
 
-enum-told : tie.Need-enum-told
-enum-told c = search needs
-
-refused-requires : tie.Need-refused-requires
-refused-requires c κs = search needs
-
-enum-known-s : tie.Need-enum-known-s
-enum-known-s c = search needs
-
-refused-requires-2 : tie.Need-refused-requires-2
-refused-requires-2 c κs = search needs
-
-push-requires : tie.Need-push-requires
-push-requires c κs = search needs
-
-push-requires-2 : tie.Need-push-requires-2
-push-requires-2 c κs = search needs
-
 returns : tie.Need-returns
 unfolding solvedRoots
 returns c = rw (c .before .enum-told .given .1) (c .refused .ensures)
@@ -36,12 +18,5 @@ returns-2 c =
 pub all-roots-spec : {M : Type 1} → statement M
 all-roots-spec =
     tie.close
-    (tie.spec
-    enum-told
-    refused-requires
-    enum-known-s
-    refused-requires-2
-    push-requires
-    push-requires-2
-    returns
+    (tie.spec (search needs) (search needs) (search needs) (search needs) (search needs) (search needs) returns
     returns-2)

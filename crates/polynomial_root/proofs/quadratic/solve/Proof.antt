@@ -8,15 +8,6 @@ returns : tie.Need-returns
 unfolding solved
 returns c = rw (c .if1 .taken)
 
-stable-requires : tie.Need-stable-requires
-stable-requires c κs = search needs
-
-in-order-requires : tie.Need-in-order-requires
-in-order-requires c κs = search needs
-
-in-order-requires-2 : tie.Need-in-order-requires-2
-in-order-requires-2 c κs = search needs
-
 returns-2 : tie.Need-returns-2
 unfolding solved
 returns-2 c =
@@ -32,4 +23,4 @@ returns-3 c =
 pub solve-spec : {M : Type 1} → statement M
 solve-spec =
     tie.close
-    (tie.spec returns stable-requires in-order-requires in-order-requires-2 returns-2 returns-3)
+    (tie.spec returns (search needs) (search needs) (search needs) returns-2 returns-3)

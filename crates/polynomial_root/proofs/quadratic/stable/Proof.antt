@@ -3,14 +3,8 @@ use borrow.Author.Needs.{needs}
 use Rattle.polynomial_root.proofs.quadratic.stable.Statement.{statement}
 use Rattle.polynomial_root.proofs.quadratic.stable.Tie as tie
 
-sign-of-requires : tie.Need-sign-of-requires
-sign-of-requires c κs = search needs
-
-root-requires : tie.Need-root-requires
-root-requires c κs = search needs
-
 returns : tie.Need-returns
 returns c = rw (c .root .ensures, c .before .sign-of .ensures)
 
 pub stable-spec : {M : Type 1} → statement M
-stable-spec = tie.close (tie.spec sign-of-requires root-requires returns)
+stable-spec = tie.close (tie.spec (search needs) (search needs) returns)

@@ -3,11 +3,8 @@ use borrow.Author.Needs.{needs}
 use Rattle.polynomial_root.proofs.span.end_at.Statement.{statement}
 use Rattle.polynomial_root.proofs.span.end_at.Tie as tie
 
-value-at-requires : tie.Need-value-at-requires
-value-at-requires c κs = search needs
-
 returns : tie.Need-returns
 returns c = rw (c .value-at .ensures)
 
 pub end-at-spec : {M : Type 1} → statement M
-end-at-spec = tie.close (tie.spec value-at-requires returns)
+end-at-spec = tie.close (tie.spec (search needs) returns)

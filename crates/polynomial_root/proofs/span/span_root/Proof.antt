@@ -20,9 +20,6 @@ returns-4 : tie.Need-returns-4
 unfolding spanRoot
 returns-4 c = rw (c .before .before .if1 .left, c .before .if2 .left, c .if4 .taken)
 
-started-requires : tie.Need-started-requires
-started-requires c κs = search needs
-
 returns-5 : tie.Need-returns-5
 unfolding spanRoot
 returns-5 c =
@@ -30,4 +27,4 @@ returns-5 c =
 
 pub span-root-spec : {M : Type 1} → statement M
 span-root-spec =
-    tie.close (tie.spec returns returns-2 returns-3 returns-4 started-requires returns-5)
+    tie.close (tie.spec returns returns-2 returns-3 returns-4 (search needs) returns-5)

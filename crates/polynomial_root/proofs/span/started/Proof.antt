@@ -4,9 +4,6 @@ use Rattle.polynomial_root.specs.Cubic.{started}
 use Rattle.polynomial_root.proofs.span.started.Statement.{statement}
 use Rattle.polynomial_root.proofs.span.started.Tie as tie
 
-descend-requires : tie.Need-descend-requires
-descend-requires c κs = search needs
-
 returns : tie.Need-returns
 unfolding started
 returns c = rw (c .before .if1 .taken) (c .descend .ensures)
@@ -16,4 +13,4 @@ unfolding started
 returns-2 c = rw (c .if1 .left)
 
 pub started-spec : {M : Type 1} → statement M
-started-spec = tie.close (tie.spec descend-requires returns returns-2)
+started-spec = tie.close (tie.spec (search needs) returns returns-2)
