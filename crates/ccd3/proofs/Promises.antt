@@ -1,10 +1,9 @@
 -- Every answer of the safe time keeps its promises (specs/SafeTime.antt): a theorem of the definition, for any numbers
 -- that are handed over as f32 and any number of probes allowed. Assumes nothing.
-use mathlib.Core.Path.{_≡_, refl, sym, ap, _∙_, subst}
+use mathlib.Core.Path.{_≡_, refl, sym, ap, subst}
 use mathlib.Core.Bool.{Bool, true, false}
 use mathlib.Core.List.{List}
-use Prim.Native.Nat.{ℕ, zero, suc, _+_, _≤_, zero-le}
-use native.Mathlib.Nat.{zero-add}
+use Prim.Native.Nat.{ℕ, zero, suc, _≤_, zero-le}
 use native.Mathlib.Omega.{arith}
 use lib.Dec.{lit≤}
 use lib.ListN.{length}
@@ -14,7 +13,7 @@ use Rattle.admission.specs.declared.Limits.{Limits}
 use Rattle.admission.proofs.Admitted.{Walkable, walk-admits}
 use Rattle.ccd3.specs.declared.Answer.{Answer}
 use Rattle.ccd3.specs.declared.Answer.the-variants.{Touching, Contact, Clear, Budget, Refused}
-use Rattle.ccd3.specs.SafeTime.{refusalOf, kindOf, timeOf, Walked, start, threshold, allowance, still, firstSquared, touches, between, safeRefusal, safeWalk, safeTimeOf, InTime, Every, Rising, isFar, Touched, Stopped, Passed, Paused, Promised, Promises}
+use Rattle.ccd3.specs.SafeTime.{numbersOf, Walked, start, threshold, allowance, still, firstSquared, touches, between, safeRefusal, safeWalk, safeTimeOf, InTime, Every, Rising, isFar, Touched, Stopped, Passed, Paused, Promised, Promises}
 use Rattle.ccd3.proofs.StartLaws.{walked, number-none, safe-refused, safe-touches, safe-walks}
 use Rattle.ccd3.proofs.Standing.{zero-timely, Ground, limit-from, start-number, number-at, start-stands}
 use Rattle.ccd3.proofs.Kept.{Says, Kept, in-time, clear-in-time, walk-keeps}
@@ -24,12 +23,12 @@ use Rattle.ccd3.proofs.Admitted.{Fitting, ground, given}
 module _ (x₀ dx : List (List Float)) (split : ℕ) (l : Limits) (allowed : ℕ) where
   abbrev Keeps : Walked → Type 0
   Keeps w =
-      let a = w .ending .answer in
-      Promised x₀ dx split l allowed (refusalOf a) (kindOf a) (timeOf a) (0 + length (w .probed)) (w .ending .halvings)
+      let n = numbersOf (w .ending .answer) in
+      Promised x₀ dx split l allowed (n .0) (n .1) (n .2) (length (w .probed)) (w .ending .halvings)
 
   refused-keeps : (n : ℕ) → safeRefusal x₀ dx split l ≡ suc n
       → safeWalk x₀ dx split l allowed ≡ still (Refused (suc n)) → Keeps (still (Refused (suc n)))
-  unfolding refusalOf kindOf timeOf
+  unfolding numbersOf
   refused-keeps n e is = record {
     number = sym e;
     probes-counted = sym (ap (λ (w : Walked). length (w .probed)) is);
@@ -55,14 +54,14 @@ module _ (x₀ dx : List (List Float)) (split : ℕ) (l : Limits) (allowed : ℕ
         (halves : w .ending .halvings ≤ 256) (rises : Rising l zero32 (w .probed)) where
       unrefused : (kind : ℕ) (t : Float) → kind ≤ 3 → InTime l t
           → (kind ≡ 0 → Touched x₀ dx split l allowed t) → (kind ≡ 1 → Stopped (isFar x₀ dx split l allowed) l t)
-          → (kind ≡ 2 → Passed x₀ dx split l allowed t) → (kind ≡ 3 → Paused x₀ dx split l allowed t (0 + length (w .probed)))
-          → Promised x₀ dx split l allowed 0 kind t (0 + length (w .probed)) (w .ending .halvings)
+          → (kind ≡ 2 → Passed x₀ dx split l allowed t) → (kind ≡ 3 → Paused x₀ dx split l allowed t (length (w .probed)))
+          → Promised x₀ dx split l allowed 0 kind t (length (w .probed)) (w .ending .halvings)
       unfolding firstSquared
       unrefused kind t small i touched stopped passed paused = record {
         number = sym e;
-        probes-counted = zero-add _ ∙ sym (ap (λ (v : Walked). length (v .probed)) is);
+        probes-counted = sym (ap (λ (v : Walked). length (v .probed)) is);
         halvings-counted = sym (ap (λ (v : Walked). v .ending .halvings) is);
-        few-probes = rw zero-add few;
+        few-probes = few;
         few-halvings = halves;
         refused = λ n. absurd (n refl);
         answered = λ n. small;
@@ -80,7 +79,7 @@ module _ (x₀ dx : List (List Float)) (split : ℕ) (l : Limits) (allowed : ℕ
 
     touching-keeps : touches x₀ dx split l ≡ true → safeWalk x₀ dx split l allowed ≡ still (Touching zero32)
         → Keeps (still (Touching zero32))
-    unfolding refusalOf kindOf timeOf Rising
+    unfolding numbersOf Rising
     touching-keeps t is =
         unrefused (still (Touching zero32)) is zero-le zero-le tt 0 zero32 zero-le
         (in-time x₀ dx split l g zero32 zero-timely (limit-from x₀ dx split l g))
@@ -105,8 +104,9 @@ module _ (x₀ dx : List (List Float)) (split : ℕ) (l : Limits) (allowed : ℕ
           (start x₀ dx split) (start-stands x₀ dx split l g (threshold l) begins)
 
       by-answer : (a : Answer) → Says x₀ dx split l g (threshold l) allowed (w .probed) a
-          → Promised x₀ dx split l allowed (refusalOf a) (kindOf a) (timeOf a) (0 + length (w .probed)) (w .ending .halvings)
-      unfolding refusalOf kindOf timeOf
+          → Promised x₀ dx split l allowed (numbersOf a .0) (numbersOf a .1) (numbersOf a .2) (length (w .probed))
+          (w .ending .halvings)
+      unfolding numbersOf
       by-answer (Contact u) h =
           unrefused w is (kept .probes) (kept .halvings) (kept .rising) 1 u (lit≤ tt) (h .0)
           (λ n. absurd (omega arith)) (λ n. h .1) (λ n. absurd (omega arith)) (λ n. absurd (omega arith))
@@ -124,7 +124,7 @@ module _ (x₀ dx : List (List Float)) (split : ℕ) (l : Limits) (allowed : ℕ
       by-answer (Budget u) h =
           unrefused w is (kept .probes) (kept .halvings) (kept .rising) 3 u (lit≤ tt) (h .0)
           (λ n. absurd (omega arith)) (λ n. absurd (omega arith)) (λ n. absurd (omega arith))
-          (λ n. record { far = h .1; all-made = rw zero-add (h .2) })
+          (λ n. record { far = h .1; all-made = h .2 })
 
       walk-promised : Keeps w
       walk-promised = by-answer (w .ending .answer) (kept .says)

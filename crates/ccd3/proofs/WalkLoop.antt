@@ -11,7 +11,8 @@ use Rattle.admission.specs.declared.Limits.{Limits}
 use Rattle.ccd3.specs.declared.Ending.{Ending}
 use Rattle.ccd3.specs.declared.Counted.{Counted}
 use Rattle.ccd3.specs.Step.{Visit, next}
-use Rattle.ccd3.specs.SafeTime.{Walked, visit, above, cleared, spent, met, ends, probing, walk, counted}
+use Rattle.ccd3.specs.SafeTime.{Walked, visit, above, cleared, spent, met, ends, probing, walk}
+use Rattle.ccd3.specs.Inner.{counted}
 use Rattle.ccd3.proofs.WalkLaws.{walk-clears, walk-spends, walk-meets, walk-steps}
 
 -- a walk that ends has made the probes made; a probe more is one more of them

@@ -1,4 +1,4 @@
 -- What the contracts of `ccd3` cite. Definitions only.
 pub mod Step
 pub mod SafeTime
-pub mod Tables
+pub mod Inner

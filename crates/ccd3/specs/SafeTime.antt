@@ -1,50 +1,26 @@
 -- The safe time of a pair, refused ones too: the walk from a start that is apart, with steps that are safe by the
 -- distance, a probe at the end of each, and a halving once a probe is not apart any more (docs/01-scope.md, "The walk",
 -- "Refusal numbers"); and what every answer promises (docs/GUARANTEES.md). Definitions only.
-use Prim.Native.Nat.{ℕ, zero, suc, _+_, _≤_}
-use mathlib.Core.Path.{_≡_}
-use mathlib.Core.Bool.{Bool, true, false, cond, _&&_, _||_, not}
+use Prim.Native.Nat.{ℕ, zero, suc, _≤_}
+use mathlib.Core.{Path._≡_, Bool.Bool, Bool.true, Bool.false, Bool.cond, Bool._&&_, Bool._||_, Bool.not}
 use mathlib.Core.List.{List, [], _∷_}
-use lib.Dec.{T}
-use lib.ListN.{length}
+use lib.{Dec.T, ListN.length}
 use lib.Ieee.{Float, lt, le, eq, isNan}
-use Rattle.number.specs.Number.{zero32, written, _⊗_, nextUp}
-use Rattle.number.specs.Halving.{Halved, halve}
+use Rattle.number.specs.{Number.zero32, Number.written, Number._⊗_, Number.nextUp, Halving.Halved, Halving.halve}
 use Rattle.geometry.specs.Geometry.{moved}
 use Rattle.distance.specs.Distance.{nearestOf}
-use Rattle.admission.specs.declared.Limits.{Limits}
-use Rattle.admission.specs.Admission.{walkRefusal}
-use Rattle.ccd3.specs.declared.Answer.{Answer}
+use Rattle.admission.specs.{declared.Limits.Limits, Admission.walkRefusal}
+use Rattle.ccd3.specs.declared.{Answer.Answer, SafeTime.SafeTime, Ending.Ending}
 use Rattle.ccd3.specs.declared.Answer.the-variants.{Touching, Contact, Clear, Budget, Refused}
-use Rattle.ccd3.specs.declared.SafeTime.{SafeTime}
-use Rattle.ccd3.specs.declared.Ending.{Ending}
-use Rattle.ccd3.specs.declared.Counted.{Counted}
 use Rattle.ccd3.specs.Step.{Visit, stepFrom, next, park}
 
--- ---- the answer, by number and value for each case
--- the refusal's number; 0 where there is none
-unfoldable pub refusalOf : Answer → ℕ
-refusalOf (Touching t) = 0
-refusalOf (Contact t) = 0
-refusalOf (Clear t) = 0
-refusalOf (Budget t) = 0
-refusalOf (Refused n) = n
-
--- the kind's number
-unfoldable pub kindOf : Answer → ℕ
-kindOf (Touching t) = 0
-kindOf (Contact t) = 1
-kindOf (Clear t) = 2
-kindOf (Budget t) = 3
-kindOf (Refused n) = 4
-
--- the time; a refusal has none
-unfoldable pub timeOf : Answer → Float
-timeOf (Touching t) = t
-timeOf (Contact t) = t
-timeOf (Clear t) = t
-timeOf (Budget t) = t
-timeOf (Refused n) = zero32
+-- an answer in numbers: the refusal, 0 for none; the kind; the time, zero with a refusal
+unfoldable pub numbersOf : Answer → ℕ × ℕ × Float
+numbersOf (Touching t) = (0, 0, t)
+numbersOf (Contact t) = (0, 1, t)
+numbersOf (Clear t) = (0, 2, t)
+numbersOf (Budget t) = (0, 3, t)
+numbersOf (Refused n) = (n, 4, zero32)
 
 -- ---- the walk
 module _ (x₀ dx : List (List Float)) (split : ℕ) where
@@ -114,14 +90,6 @@ module _ (x₀ dx : List (List Float)) (split : ℕ) (threshold : Float) where
         ])
       ]
 
--- what is left of a walk that goes on after n probes: how it ends, and how many probes it has made by then
-abbrev pub counted : ℕ → Walked → Counted
-counted n w = record { ending = w .ending; probes = n + length (w .probed) }
-
--- what a call tells of it
-abbrev pub told : Counted → SafeTime
-told c = record { answer = c .ending .answer; probes = c .probes; halvings = c .ending .halvings }
-
 -- ---- the safe time
 abbrev pub squaredPark : Limits → Float
 squaredPark l = park l ⊗ park l
@@ -169,7 +137,9 @@ module _ (x₀ dx : List (List Float)) (split : ℕ) (l : Limits) where
 
 unfoldable pub safeTimeOf : List (List Float) → List (List Float) → ℕ → Limits → SafeTime
 unfolding safeWalk
-safeTimeOf x₀ dx split l = told (counted 0 (safeWalk x₀ dx split l allowance))
+safeTimeOf x₀ dx split l =
+    let w = safeWalk x₀ dx split l allowance in
+    record { answer = w .ending .answer; probes = length (w .probed); halvings = w .ending .halvings }
 
 -- ---- the promises, over the numbers of the answer and the walk of the definition
 -- a time from 0 to the time limit, a zero with the sign plus
@@ -252,5 +222,4 @@ module _ (x₀ dx : List (List Float)) (split : ℕ) (l : Limits) (allowed : ℕ
 -- of an answer as the library gives it
 abbrev pub Promises : List (List Float) → List (List Float) → ℕ → Limits → SafeTime → Type 0
 Promises x₀ dx split l s =
-    Promised x₀ dx split l allowance (refusalOf (s .answer)) (kindOf (s .answer)) (timeOf (s .answer)) (s .probes)
-    (s .halvings)
+    let n = numbersOf (s .answer) in Promised x₀ dx split l allowance (n .0) (n .1) (n .2) (s .probes) (s .halvings)

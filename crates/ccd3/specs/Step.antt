@@ -2,10 +2,8 @@
 -- (docs/01-scope.md, "The directional step", "The walk"). Definitions only.
 use Prim.Native.Nat.{ℕ}
 use mathlib.Core.Bool.{Bool, true, false, cond, _&&_}
-use mathlib.Core.List.{List, [], _∷_}
-use mathlib.Core.Option.{Option, none, some}
-use lib.Dec.{eqb}
-use lib.Ieee.{Float, binary32, lt, le, eq, ofBits}
+use mathlib.Core.{List.List, List.[], List._∷_, Option.Option, Option.none, Option.some}
+use lib.{Dec.eqb, Ieee.Float, Ieee.binary32, Ieee.lt, Ieee.le, Ieee.eq, Ieee.ofBits}
 use Rattle.number.specs.Number.{_⊕_, _⊖_, _⊗_, _⊘_, zero32, half32, one32, largest32, size, smaller, larger}
 use Rattle.number.specs.Root.{rootOf}
 use Rattle.geometry.specs.Geometry.{at, col, vec, minus, dot, Cross, crossPairs}

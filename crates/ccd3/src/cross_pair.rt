@@ -3,7 +3,7 @@
 ghost use mathlib.Core.Path.{_≡_};
 ghost use Rattle.geometry.specs.Geometry as Vec3;
 ghost use Rattle.ccd3.specs.Step as Def;
-ghost use Rattle.ccd3.specs.Tables as Tables;
+ghost use Rattle.ccd3.specs.Inner as Inner;
 use crate::Aim;
 use geometry::vec3::dot;
 use geometry::vec3::sub;
@@ -55,7 +55,7 @@ pub(crate) fn projected(
 // How long columns that are displaced by `first` and `second` take to close in, with this gap left; the largest f32
 // where they do not close in.
 pub(crate) fn time_left(left: f32, first: [f32; 3], second: [f32; 3], a: Aim) -> f32
-    ensures { λ r. ⌜ r ≡ Tables.timeLeft a left (Vec3.dot (a .w) (Vec3.minus first second)) ⌝ }
+    ensures { λ r. ⌜ r ≡ Inner.timeLeft a left (Vec3.dot (a .w) (Vec3.minus first second)) ⌝ }
 {
     let w = a.w;
     let speed = dot(w, sub(first, second));

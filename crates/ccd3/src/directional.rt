@@ -4,7 +4,7 @@ ghost use Prim.Native.Nat.{_≤_};
 ghost use Rattle.number.specs.Number.{largest32};
 ghost use Rattle.geometry.specs.Geometry.{crossPairs};
 ghost use Rattle.ccd3.specs.Step as Def;
-ghost use Rattle.ccd3.specs.Tables as Tables;
+ghost use Rattle.ccd3.specs.Inner as Inner;
 use crate::Aim;
 use crate::cross_pair::LARGEST;
 use crate::cross_pair::projected;
@@ -15,7 +15,7 @@ use number::order::smaller;
 // pair leaves. The first pair that is not beyond dip ends both loops at once with step 0.
 fn over_sides(left: [[f32; 4]; 3], time: [[f32; 4]; 3], split: usize, dip: f32) -> f32
     requires { ⌜ split ≤ 3 ⌝ }
-    ensures { λ r. ⌜ r ≡ Tables.leastIn left time dip (crossPairs split) largest32 ⌝ }
+    ensures { λ r. ⌜ r ≡ Inner.leastIn left time dip (crossPairs split) largest32 ⌝ }
 {
     let mut step = LARGEST;
     'sides: for i in 0..split {

@@ -2,6 +2,7 @@
 ghost use mathlib.Core.Path.{_≡_};
 ghost use Rattle.admission.specs.Admission.{walkRefusal};
 ghost use Rattle.ccd3.specs.SafeTime as Def;
+ghost use Rattle.ccd3.specs.Inner as Inner;
 use crate::Answer;
 use crate::Counted;
 use crate::SafeTime;
@@ -24,7 +25,7 @@ fn threshold(l: Limits) -> f32
 
 // An answer with no walk.
 fn still(answer: Answer) -> Counted
-    ensures { λ r. ⌜ r ≡ Def.counted 0 (Def.still answer) ⌝ }
+    ensures { λ r. ⌜ r ≡ Inner.counted 0 (Def.still answer) ⌝ }
 {
     let ending = unbracketed(answer, 0.0);
     Counted { ending, probes: 0 }
@@ -39,7 +40,7 @@ fn admitted(
     allowance: u32,
 ) -> Counted
     requires { ⌜ walkRefusal x0 dx split l ≡ 0 ⌝ }
-    ensures { λ r. ⌜ r ≡ Def.counted 0 (Def.safeWalk x0 dx split l allowance) ⌝ }
+    ensures { λ r. ⌜ r ≡ Inner.counted 0 (Def.safeWalk x0 dx split l allowance) ⌝ }
 {
     let first = nearest(x0, split);
     let squared_offset = l.offset * l.offset;
@@ -62,7 +63,7 @@ fn safe_walk(
     limits: Limits,
     allowance: u32,
 ) -> Counted
-    ensures { λ r. ⌜ r ≡ Def.counted 0 (Def.safeWalk x0 dx split limits allowance) ⌝ }
+    ensures { λ r. ⌜ r ≡ Inner.counted 0 (Def.safeWalk x0 dx split limits allowance) ⌝ }
 {
     let refusal = admit_walk(x0, dx, split, limits);
     if refusal == 0 {

@@ -3,6 +3,7 @@
 ghost use mathlib.Core.Path.{_≡_};
 ghost use Rattle.number.specs.Number.{zero32};
 ghost use Rattle.ccd3.specs.SafeTime as Def;
+ghost use Rattle.ccd3.specs.Inner as Inner;
 use crate::Answer;
 use crate::Counted;
 use crate::Ending;
@@ -61,7 +62,7 @@ pub(crate) fn walk(
     allowance: u32,
     first: Nearest,
 ) -> Counted
-    ensures { λ r. ⌜ r ≡ Def.counted 0 (Def.walk x0 dx split threshold l allowance
+    ensures { λ r. ⌜ r ≡ Inner.counted 0 (Def.walk x0 dx split threshold l allowance
         (record { time = zero32; points = x0; near = first })) ⌝ }
 {
     let mut time = 0.0;

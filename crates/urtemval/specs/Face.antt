@@ -7,7 +7,7 @@ use Prim.Native.Nat.{ℕ}
 use Rattle.number.specs.declared.answer.Answered.{Answered}
 use Rattle.number.specs.Number.{refusalOf, valueOf}
 use Rattle.ccd3.specs.declared.SafeTime as Walked
-use Rattle.ccd3.specs.SafeTime as Ends
+use Rattle.ccd3.specs.SafeTime.{numbersOf}
 use Rattle.urtemval.specs.declared.answer.SafeTime.{SafeTime}
 use Rattle.urtemval.specs.declared.answer.Value.{Value}
 
@@ -23,4 +23,4 @@ abbrev pub timed : ℕ → ℕ → Float → Walked.SafeTime → SafeTime
 timed n k t s = record { refusal = n; kind = k; time = t; probes = s .probes; halvings = s .halvings }
 
 unfoldable pub safeTime : Walked.SafeTime → SafeTime
-safeTime s = timed (Ends.refusalOf (s .answer)) (Ends.kindOf (s .answer)) (Ends.timeOf (s .answer)) s
+safeTime s = let n = numbersOf (s .answer) in timed (n .0) (n .1) (n .2) s

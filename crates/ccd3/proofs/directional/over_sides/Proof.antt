@@ -10,7 +10,7 @@ use lib.Ieee.{Float}
 use Rattle.geometry.specs.Geometry.{Cross, cross, crossPairs}
 use Rattle.geometry.proofs.CrossPairs.{rows, rest, row-next, row-done, rows-next, rows-done}
 use Rattle.number.specs.Number.{largest32}
-use Rattle.ccd3.specs.Tables.{leastIn}
+use Rattle.ccd3.specs.Inner.{leastIn}
 use Rattle.ccd3.proofs.Tables.{none-left, pair-stops, pair-passes}
 use Rattle.ccd3.proofs.directional.over_sides.Statement.{statement}
 use Rattle.ccd3.proofs.directional.over_sides.Tie as tie

@@ -1,13 +1,17 @@
 -- `ccd3::safe_time::maximum_safe_time_accurate` meets its contract: what the definition's walk tells, and its promises.
 -- Assumes nothing.
-use mathlib.Core.Path.{_≡_, sym, ap, subst}
+use native.Mathlib.Nat.{zero-add}
+use mathlib.Core.Path.{_≡_, sym, ap, _∙_, subst}
 use borrow.Author.Needs.{needs}
 use lib.Dec.{T}
+use lib.ListN.{length}
 use denote.Struct.Laws.{owed}
 use Rattle.admission.proofs.Limits.{the-type}
 use Rattle.admission.proofs.Limits.Laws.{the-laws}
 use Rattle.ccd3.specs.declared.SafeTime.{SafeTime}
-use Rattle.ccd3.specs.SafeTime.{told, safeTimeOf, Promises}
+use Rattle.ccd3.specs.declared.Counted.{Counted}
+use Rattle.ccd3.specs.SafeTime.{Walked, allowance, safeWalk, safeTimeOf, Promises}
+use Rattle.ccd3.specs.Inner.{counted}
 use Rattle.ccd3.proofs.Handed.{points-fit}
 use Rattle.ccd3.proofs.Admitted.{Fitting}
 use Rattle.ccd3.proofs.Promises.{safe-time-promised}
@@ -25,6 +29,18 @@ fitting c =
       max-t = subst T (sym (l .1 .1 .0 .1)) tt;
     }
 
+-- the answer, of the whole record
+abbrev told : Counted → SafeTime
+told k = record { answer = k .ending .answer; probes = k .probes; halvings = k .ending .halvings }
+
+told-all : (w : Walked) → told (counted 0 w)
+    ≡ record { answer = w .ending .answer; probes = length (w .probed); halvings = w .ending .halvings }
+told-all w i = record {
+  answer = w .ending .answer;
+  probes = zero-add (length (w .probed)) i;
+  halvings = w .ending .halvings;
+}
+
 -- the promises, from the equation
 with-promises : (c : tie.Start) (r : SafeTime)
     → r ≡ safeTimeOf (c .args .x0) (c .args .dx) (c .args .split) (c .args .limits)
@@ -36,7 +52,10 @@ with-promises c r e =
 
 returns : tie.Need-returns
 unfolding safeTimeOf
-returns c = with-promises (c .before .before) _ (ap told (c .before .safe-walk .ensures))
+returns c =
+    let a = c .before .before .args in
+    with-promises (c .before .before) _
+    (ap told (c .before .safe-walk .ensures) ∙ told-all (safeWalk (a .x0) (a .dx) (a .split) (a .limits) allowance))
 
 pub maximum-safe-time-accurate-spec : {M : Type 1} → statement M
 maximum-safe-time-accurate-spec = tie.close (tie.spec (λ c κs. search needs) returns)

@@ -1,7 +1,7 @@
 -- `ccd3::safe_time::safe_walk` meets its contract, by either way through its test. Assumes nothing.
 use mathlib.Core.Path.{sym, ap, _∙_}
 use borrow.Author.Needs.{needs}
-use Rattle.ccd3.specs.SafeTime.{counted}
+use Rattle.ccd3.specs.Inner.{counted}
 use Rattle.ccd3.proofs.StartLaws.{number-admission, safe-refused}
 use Rattle.ccd3.proofs.safe_time.safe_walk.Statement.{statement}
 use Rattle.ccd3.proofs.safe_time.safe_walk.Tie as tie

@@ -1,13 +1,15 @@
--- The directional step over tables of what each cross pair leaves (specs/Step.antt). Only inner functions cite it: the
--- contract of `directional_advance` and of every public function says `directional`. Definitions only.
+-- What the inner functions of `ccd3` promise each other; no public statement cites it. Definitions only.
+use Prim.Native.Nat.{ℕ, _+_}
 use mathlib.Core.Bool.{cond}
 use mathlib.Core.List.{List, [], _∷_}
+use lib.ListN.{length}
 use lib.Ieee.{Float, lt, le}
 use Rattle.number.specs.Number.{zero32, largest32, smaller}
 use Rattle.geometry.specs.Geometry.{at, col, Cross}
-use Rattle.ccd3.specs.declared.Aim.{Aim}
-use Rattle.ccd3.specs.Step.{timeToPark}
+use Rattle.ccd3.specs.declared.{Aim.Aim, Counted.Counted}
+use Rattle.ccd3.specs.{Step.timeToPark, SafeTime.Walked}
 
+-- ---- the directional step over tables of what each cross pair leaves
 -- the time of a pair with this projected gap left, at this speed; of one that does not close in, the largest f32
 unfoldable pub timeLeft : Aim → Float → Float → Float
 timeLeft a left speed = cond (lt zero32 speed) (timeToPark a left speed) largest32
@@ -21,3 +23,8 @@ unfoldable pub leastIn : List (List Float) → List (List Float) → Float → L
 leastIn left time dip [] least = least
 leastIn left time dip (p ∷ rest) least =
     cond (le (entry left p) dip) zero32 (leastIn left time dip rest (smaller least (entry time p)))
+
+-- ---- the walk, with its probes counted
+-- of a walk that goes on after n probes: how it ends, and how many probes it has made by then
+abbrev pub counted : ℕ → Walked → Counted
+counted n w = record { ending = w .ending; probes = n + length (w .probed) }
