@@ -16,14 +16,14 @@ int main(void)
 
     UrtemvalValue speed = urtemval_max_relative_norm(&dx, URTEMVAL_FACE_VERTEX);
     if (speed.refusal != 0) {
-        printf("the speed is refused: %u\n", (unsigned)speed.refusal);
+        printf("the speed is refused: %s\n", urtemval_refusal_text(speed.refusal));
         return 1;
     }
     float u_max = speed.value < 0x1p-60f ? 0x1p-60f : speed.value; /* of a pair at rest the speed is 0 */
     UrtemvalLimits limits = {0.125f, 0.125f, 1, u_max}; /* offset, clearance, max_t, u_max */
     UrtemvalSafeTime safe = urtemval_safe_time(&x0, &dx, URTEMVAL_FACE_VERTEX, limits);
     if (safe.refusal != 0) {
-        printf("the safe time is refused: %u\n", (unsigned)safe.refusal);
+        printf("the safe time is refused: %s\n", urtemval_refusal_text(safe.refusal));
         return 1;
     }
     printf("%s at %.9g after %u probes and %u halvings\n", kinds[safe.kind], safe.time, (unsigned)safe.probes,

@@ -16,29 +16,57 @@
  *   that has changed it, as -ffast-math does at the start of a program, has to set it back before a call.
  * - A NaN is a NaN: its sign and its other bits are not told apart.
  *
- * What a solver has to mind that cuts its moves by safe times:
- * - One time is for the whole pair: what is said of it holds where its four points all move by the same t. Cut the
- *   whole move by the smallest time of all its pairs. Cutting each point by the smallest time of its own pairs is not
- *   covered: a sheet that a floor stops at 0.4, and a point that falls with the sheet and is clear of it at 1, end with
- *   the point below the sheet.
- * - Leave out pairs whose two sides share a point. Their distance is 0, up to rounding: they are answered as touching,
- *   or with an offset of 0 sometimes refused by 3.
- * - Take u_max from the pair's own displacements, and not below 2^-60, which is what a pair at rest needs:
- *   fmaxf(norm, 0x1p-60f), with the norm of urtemval_max_relative_norm. Too small a u_max lets pairs pass through each
- *   other, and they are answered as clear.
- * - Move the points as the library does: x + t * dx, the product rounded to float and then the sum. A compiler may fuse
- *   the two unless it is told not to (-ffp-contract=off); then the points are others than those that the answer is
- *   about.
+ * What a solver does with a pair: two edges, or a face and a corner, that are near each other and share no corner.
+ * 1. Centre: subtract the mean of the four points from each of them. Displacements are differences, and stay.
+ * 2. Scale points and displacements by urtemval_scale_pair, whose answer is the factor f. Where it is refused by 4 or
+ *    5, or f * offset or f * clearance is above 2^20, go on with the pair before scaling, and f = 1.
+ * 3. Ask for the safe time with f * offset, f * clearance, the same max_t, and u_max taken from the displacements as
+ *    they are then: fmaxf(norm, 0x1p-60f), with the norm of urtemval_max_relative_norm.
+ * 4. Cut the whole move by the smallest time of all pairs, and move each point to x + t * dx.
+ * Steps 1 and 2 may be left out. They keep the computed distance near the exact one where coordinates are large or
+ * tiny beside it. Nothing does so for nearly parallel edges and thin faces, which can pass through each other unseen,
+ * between two tried times (docs/GUARANTEES.md: how often that was seen, and with which clearance it was not).
+ *
+ * After each answer:
+ * - contact, clear: the time is the pair's.
+ * - budget: the time is the pair's, as after contact, and often there is more room. The next move goes on from there,
+ *   or a second question from the moved points with what is left of the move. Budgets come where steps are short: u_max
+ *   is far above the pair's own speed, or the clearance is tiny beside the way that the pair makes near park.
+ * - touching: the time is 0 and stays 0. Part the pair by other means, or leave it out and answer for it yourself.
+ * - refused by 1: a point, a displacement or a limit is NaN or infinite. Mend what made it, and do not move by it.
+ * - refused by 2: the split is neither 2 nor 3, or a number is outside its range. Coordinates beyond 2^20: centre the
+ *   pair, or take larger units. u_max below 2^-60: step 3 has the maximum.
+ * - refused by 3: the pair starts between the offset and park. Ask again with a smaller clearance, half of what its
+ *   distance exceeds the offset by, or take it as touching.
+ * - refused by 4 or 5: see step 2; points and displacements are as they were.
+ * - refused by 6, 7, 8 or 9 (roots only): no root is known, which does not say that there is none.
+ * A refused call has no time. The field is zero, which as a time stands still: safe, and no answer.
+ *
+ * What is easily missed:
+ * - One time is for the whole pair: what is said of it holds where its four points all move by the same t. Cutting each
+ *   point by the smallest time of its own pairs is not covered: a sheet that a floor stops at 0.4, and a point that
+ *   falls with the sheet and is clear of it at 1, end with the point below the sheet.
+ * - Pairs whose two sides share a point have distance 0, up to rounding: they are answered as touching, or with an
+ *   offset of 0 sometimes refused by 3. Leave them out.
+ * - Too small a u_max lets pairs pass through each other, and they are answered as clear. One that was taken before the
+ *   scaling is too small where the factor is above 1.
+ * - x + t * dx has two roundings, of the product and of the sum. A compiler may fuse the two unless it is told not to
+ *   (-ffp-contract=off); then the points are others than those that the answer is about.
  * - Contact stops just beyond park = offset + clearance; steps aim at dip = offset + clearance / 2. At the end of a
  *   clear move, or of a move that another pair's time cuts, a pair may be anywhere from dip up (rounding aside). The
  *   next call may then refuse it by 3, or find it touching.
- * - Centring and scaling a pair changes its limits, too: see urtemval_scale_pair.
  *
  * The archive liburtemval.a holds code for x86-64 Linux, needs no other library, and may be linked into executables and
  * shared libraries, position-independent or not.
  */
 #ifndef URTEMVAL_H
 #define URTEMVAL_H
+
+/* The version of this header, and of the archive that was made beside it. */
+#define URTEMVAL_VERSION "0.1.0"
+#define URTEMVAL_VERSION_MAJOR 0
+#define URTEMVAL_VERSION_MINOR 1
+#define URTEMVAL_VERSION_PATCH 0
 
 #include <float.h>
 #include <stddef.h>
@@ -57,6 +85,12 @@
 extern "C" {
 #else
 #define URTEMVAL_NOEXCEPT
+#endif
+
+#if defined(__cplusplus) || (defined(__STDC_VERSION__) && __STDC_VERSION__ >= 199901L)
+#define URTEMVAL_INLINE static inline
+#else
+#define URTEMVAL_INLINE static __inline__
 #endif
 
 /* What a split may be. */
@@ -89,6 +123,35 @@ enum {
     URTEMVAL_STUCK = 8,             /* roots: a Newton step meets value 0 and slope 0 */
     URTEMVAL_NOT_QUADRATIC = 9      /* quadratic: c2 is zero */
 };
+
+/* A refusal in words, by its number. */
+URTEMVAL_INLINE const char *urtemval_refusal_text(uint32_t refusal) URTEMVAL_NOEXCEPT
+{
+    switch (refusal) {
+    case 0:
+        return "not refused";
+    case URTEMVAL_NOT_FINITE:
+        return "a number handed over is NaN or infinite";
+    case URTEMVAL_OUT_OF_RANGE:
+        return "a number lies beyond its range, or the split is neither 2 nor 3";
+    case URTEMVAL_TOO_CLOSE:
+        return "safe time: the pair starts above the offset and below offset + clearance";
+    case URTEMVAL_NO_FACTOR:
+        return "scaling: there is no finite factor above 0";
+    case URTEMVAL_SCALED_NOT_FINITE:
+        return "scaling: a scaled number would not be finite";
+    case URTEMVAL_FLAT_SPAN:
+        return "roots: the polynomial is zero at both ends of a span";
+    case URTEMVAL_GUESS_OUTSIDE:
+        return "roots: the first guess lies outside the range";
+    case URTEMVAL_STUCK:
+        return "roots: a Newton step meets value 0 and slope 0";
+    case URTEMVAL_NOT_QUADRATIC:
+        return "quadratic: the leading coefficient is zero";
+    default:
+        return "a refusal that this header does not know: the archive is of another version";
+    }
+}
 
 /* Four points of three numbers each, or as many displacements. Numbers: finite, size at most 2^20. */
 typedef struct UrtemvalPoints {
@@ -173,10 +236,8 @@ UrtemvalValue urtemval_max_relative_norm(const UrtemvalPoints *x, size_t split) 
  * Multiplies the lent points x and displacements dx so that the largest entry of x, and of x + max_t dx, is about 0.99,
  * and answers the factor. A refused call leaves both as they were, bit for bit. max_t: 0 to 1.
  *
- * Ask for a safe time of the scaled pair with offset and clearance multiplied by the factor, and with u_max taken anew
- * from the scaled dx: the old u_max is too small where the factor is above 1, and lets pairs pass through. The time
- * then holds for the pair as it was up to rounding only. To centre a pair first, subtract the mean of its four points
- * from each of them; displacements are differences, and stay.
+ * The top of this file says how a safe time is asked of the scaled pair. Its time is a time of the pair as it was, too;
+ * what is said of the distance there holds for the pair as it was up to rounding only.
  *
  * Refusals: 1 some number is NaN or an infinity; 2 one lies beyond its range; 4 there is no finite factor above 0 (all
  * entries are zero, or too small); 5 some scaled number would not be finite.

@@ -7,6 +7,7 @@
 - README.md lists each file of definitions with its number of lines, and their sum.
 - Each definition of specs/ is reached from a contract; each law of proofs/ is cited, or stands in STATEMENTS.md, whose
   laws are there; each function is called; each import is used.
+- docs/CONTRIBUTING.md lists each file of laws, proofs/NAME.antt, once, and has each library crate in its drawing.
 """
 import re
 import sys
@@ -289,12 +290,32 @@ def hold_readme():
     return len(there), sum(there.values())
 
 
+# ---- docs/CONTRIBUTING.md
+def hold_map():
+    page = "docs/CONTRIBUTING.md"
+    text = (ROOT / page).read_text()
+    listed = Counter(re.findall(r"^\| `(\w+/\w+)` \| \S.* \|$", text, re.M))
+    top = [path for path in PROOFS if path.parent.name == "proofs" and path.name != "Lib.antt"]
+    there = {f"{crate_of(path)}/{path.stem}" for path in top}
+    for name in sorted(there - listed.keys()):
+        fault(page, f"the list of laws has no {name}")
+    for name in sorted(listed.keys() - there):
+        fault(page, f"the list of laws has {name}, which is no file of laws")
+    for name in sorted(name for name, times in listed.items() if times > 1):
+        fault(page, f"the list of laws has {name} more than once")
+    drawing = text.split("```")[1]
+    for crate in sorted(IS_LIBRARY):
+        if not occurs(crate, drawing):
+            fault(page, f"{crate} is not in the drawing of the crates")
+
+
 hold_imports()
 hold_calls()
 hold_definitions()
 hold_laws()
 functions, edits = hold_statements()
 files, lines = hold_readme()
+hold_map()
 for each in faults:
     print(f"tests/sources: {each}")
 print(

@@ -1,8 +1,10 @@
 #!/usr/bin/env python3
-"""declared.py rattle|c|rust|layout: the exported functions and their records, one a line, in words that are the same
-for the three languages. `rattle` reads the sources of the archive, `c` the header, `rust` the crate's declarations;
-tests/link holds the three lists to each other. `layout` prints the sizes and offsets that follow from the Rattle
-records, and the numbers of the kinds, as tests/face/layout.c and the Rust crate's test `layout` print them.
+"""declared.py rattle|c|rust|layout|texts: the exported functions and their records, one a line, in words that are the
+same for the three languages. `rattle` reads the sources of the archive, `c` the header, `rust` the crate's
+declarations; tests/link holds the three lists to each other. `layout` prints the sizes and offsets that follow from the
+Rattle records, and the numbers of the kinds, as tests/face/layout.c and the Rust crate's test `layout` print them.
+`texts` prints README.md's table of refusals as these two print theirs, without those of scenes, which no exported
+function answers.
 """
 import pathlib
 import re
@@ -126,8 +128,13 @@ def layout():
     return lines
 
 
+def texts():
+    rows = re.findall(r"^\| (\d+) \| (.*) \|$", (ROOT / "README.md").read_text(encoding="utf-8"), re.M)
+    return [f"text {number}: {words}" for number, words in rows if not words.startswith("scene: ")]
+
+
 if __name__ == "__main__":
-    lists = {"rattle": rattle, "c": c, "rust": rust, "layout": layout}
+    lists = {"rattle": rattle, "c": c, "rust": rust, "layout": layout, "texts": texts}
     if len(sys.argv) != 2 or sys.argv[1] not in lists:
         sys.exit(__doc__)
     print("\n".join(lists[sys.argv[1]]()))

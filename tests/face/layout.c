@@ -1,6 +1,7 @@
 /*
- * Prints the sizes and offsets of the header's records and its constants, as this compiler has them. tests/link holds
- * the list to the one that the Rust crate gives and to the one of the Rattle sources.
+ * Prints the sizes and offsets of the header's records, its constants, its refusals' texts and its version, as this
+ * compiler has them. tests/link holds the list to the one that the Rust crate gives and to the one of the Rattle
+ * sources, and the texts to README.md.
  */
 #include <stdio.h>
 #include <urtemval.h>
@@ -53,5 +54,10 @@ int main(void)
     CONSTANT("refusal", GUESS_OUTSIDE);
     CONSTANT("refusal", STUCK);
     CONSTANT("refusal", NOT_QUADRATIC);
+    for (uint32_t refusal = 1; refusal <= URTEMVAL_NOT_QUADRATIC; refusal++)
+        printf("text %u: %s\n", (unsigned)refusal, urtemval_refusal_text(refusal));
+    printf("version %s\n", URTEMVAL_VERSION);
+    printf("version %d.%d.%d by its numbers\n", URTEMVAL_VERSION_MAJOR, URTEMVAL_VERSION_MINOR,
+           URTEMVAL_VERSION_PATCH);
     return 0;
 }

@@ -44,7 +44,8 @@
 //!   may find it too close ([`Refusal::TooClose`]) or touching.
 //! - **Centring and scaling** ([`scale_pair`]) change the limits of a pair, too.
 //!
-//! docs/GUARANTEES.md says all of it in full: what is proved, what is measured, and what is not promised.
+//! `include/urtemval.h` has the steps for a pair (centre, scale, ask) and what to do after each answer and refusal;
+//! docs/GUARANTEES.md says in full what is proved, what is measured, and what is not promised.
 //!
 //! # Panics
 //!

@@ -52,22 +52,30 @@ impl Refusal {
     pub fn from_number(number: u32) -> Option<Refusal> {
         Refusal::ALL.into_iter().find(|r| r.number() == number)
     }
+
+    /// The refusal in words: those of `urtemval_refusal_text` in the header.
+    pub fn text(self) -> &'static str {
+        match self {
+            Refusal::NotFinite => "a number handed over is NaN or infinite",
+            Refusal::OutOfRange => {
+                "a number lies beyond its range, or the split is neither 2 nor 3"
+            }
+            Refusal::TooClose => {
+                "safe time: the pair starts above the offset and below offset + clearance"
+            }
+            Refusal::NoFactor => "scaling: there is no finite factor above 0",
+            Refusal::ScaledNotFinite => "scaling: a scaled number would not be finite",
+            Refusal::FlatSpan => "roots: the polynomial is zero at both ends of a span",
+            Refusal::GuessOutside => "roots: the first guess lies outside the range",
+            Refusal::Stuck => "roots: a Newton step meets value 0 and slope 0",
+            Refusal::NotQuadratic => "quadratic: the leading coefficient is zero",
+        }
+    }
 }
 
 impl fmt::Display for Refusal {
     fn fmt(&self, f: &mut fmt::Formatter<'_>) -> fmt::Result {
-        let reason = match self {
-            Refusal::NotFinite => "a number is NaN or infinite",
-            Refusal::OutOfRange => "a number lies beyond its range",
-            Refusal::TooClose => "the pair starts above the offset and below offset + clearance",
-            Refusal::NoFactor => "there is no finite factor above 0 to scale by",
-            Refusal::ScaledNotFinite => "a scaled number would not be finite",
-            Refusal::FlatSpan => "the polynomial is zero at both ends of a span",
-            Refusal::GuessOutside => "the first guess of a root lies outside the range",
-            Refusal::Stuck => "a Newton step meets value 0 and slope 0",
-            Refusal::NotQuadratic => "c2 is zero, so this is no quadratic",
-        };
-        write!(f, "refusal {}: {reason}", self.number())
+        write!(f, "refusal {}: {}", self.number(), self.text())
     }
 }
 

@@ -1,5 +1,5 @@
-//! Prints the sizes and offsets of the records and the constants, as this compiler has them. `tests/link` holds the
-//! list to the one that the header's C gives and to the one of the Rattle sources.
+//! Prints the sizes and offsets of the records, the constants, the refusals' texts and the version, as this compiler
+//! has them. `tests/link` holds the list to the one that the header's C gives and to the one of the Rattle sources.
 
 use std::mem::{size_of, size_of_val};
 use urtemval::{raw, Limits, Points, Refusal, Split};
@@ -46,6 +46,16 @@ fn main() {
             refusal.number()
         );
     }
+    for refusal in Refusal::ALL {
+        println!("text {}: {}", refusal.number(), refusal.text());
+    }
+    println!("version {}", env!("CARGO_PKG_VERSION"));
+    println!(
+        "version {}.{}.{} by its numbers",
+        env!("CARGO_PKG_VERSION_MAJOR"),
+        env!("CARGO_PKG_VERSION_MINOR"),
+        env!("CARGO_PKG_VERSION_PATCH")
+    );
 }
 
 /// A name in C's way: `NotFinite` is `NOT_FINITE`.
