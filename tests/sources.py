@@ -7,11 +7,14 @@
 - README.md lists each file of definitions with its number of lines, and their sum.
 - Each definition of specs/ is reached from a contract; each law of proofs/ is cited, or stands in STATEMENTS.md, whose
   laws are there; each function is called; each import is used.
+- What follows from the table of the stream of calls, tests/calls.txt, stands as that has it (tests/calls_written.py).
 """
 import re
 import sys
 from collections import Counter
 from pathlib import Path
+
+import calls_written
 
 ROOT = Path(__file__).resolve().parent.parent
 CRATES = ROOT / "crates"
@@ -295,6 +298,7 @@ hold_definitions()
 hold_laws()
 functions, edits = hold_statements()
 files, lines = hold_readme()
+faults += calls_written.faults()
 for each in faults:
     print(f"tests/sources: {each}")
 print(

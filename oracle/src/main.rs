@@ -9,6 +9,7 @@ mod cover;
 mod examples;
 mod faults;
 mod freeze;
+mod functions;
 mod generate;
 mod judge;
 mod model;
@@ -16,8 +17,9 @@ mod outside;
 mod scenes;
 mod sides;
 mod tally;
+mod words;
 
-use calls::Function;
+use functions::Function;
 use std::path::Path;
 use std::process::ExitCode;
 

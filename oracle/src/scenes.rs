@@ -6,11 +6,13 @@ use std::io::Write;
 use std::path::Path;
 use std::process::{Command, Stdio};
 
-use crate::calls::{Call, Function, Words};
+use crate::calls::Call;
+use crate::functions::Function;
 use crate::generate::Source;
 use crate::judge::{judged, refusal_of, Relation};
 use crate::model::{Point, Rules};
 use crate::sides::KINDS;
+use crate::words::Words;
 
 /// The most points, and the most pairs, of a scene.
 const MOST: usize = 1024;
@@ -86,7 +88,7 @@ impl Scene {
         let dx = gathered(&self.displacements);
         let speed = Rules::DOCUMENT.max_relative_norm(&dx, pair[0]).unwrap_or(1.0);
         let words = Words::new().points(&gathered(&self.points)).points(&dx).word(pair[0]);
-        Call::new(Function::SafeTime, words.numbers(&self.limits).numbers(&[speed]))
+        Call::new(Function::MaximumSafeTimeAccurate, words.numbers(&self.limits).numbers(&[speed]))
     }
 }
 
@@ -171,18 +173,18 @@ fn random(source: &mut Source, count: usize) -> Scene {
     let mut scene = Scene { points: Vec::new(), displacements: Vec::new(), pairs: Vec::new(), limits: [0.0; 3] };
     let lead = source.below(count as u32) as usize;
     for number in 0..count {
-        let call = source.call_of(Function::SafeTime);
+        let call = source.call_of(Function::MaximumSafeTimeAccurate);
         let first = scene.points.len() as u32;
-        let mut pair = [2 + (call.arguments.as_slice()[24] & 1), first, first + 1, first + 2, first + 3];
+        let mut pair = [2 + (call.word("split") & 1), first, first + 1, first + 2, first + 3];
         if first as usize + 4 > MOST || (first > 0 && source.once_in(8)) {
             pair[1..].iter_mut().for_each(|corner| *corner = source.below(first));
         } else {
-            scene.points.extend(call.arguments.columns(0));
-            scene.displacements.extend(call.arguments.columns(12));
+            scene.points.extend(call.points("x0"));
+            scene.displacements.extend(call.points("dx"));
         }
         scene.pairs.push(pair);
         if number == lead {
-            scene.limits = call.arguments.triple(25);
+            scene.limits = ["offset", "clearance", "max_t"].map(|name| call.number(name));
         }
     }
     scene

@@ -1,5 +1,5 @@
-//! Calls of every public function, from one seed: each from a family that finds faults, and one in twelve, or one in three
-//! of the functions that are called seldom, with something that is not allowed.
+//! Calls of every public function, from one seed: each from a family that finds faults, and one in twelve, or one in
+//! three of the functions that are called seldom, with something that is not allowed.
 
 mod numbers;
 mod pairs;
@@ -9,14 +9,16 @@ mod safe_times;
 
 pub use numbers::Source;
 
-use crate::calls::{Call, Function, Words, FUNCTIONS, NAN};
+use crate::calls::Call;
+use crate::functions::{Function, FUNCTIONS};
 use crate::model::Points;
 use crate::outside::{allowed, just_outside, ways, Allowed};
+use crate::words::{Words, NAN};
 pub use numbers::neighbour;
 use numbers::power_of_two;
 
 /// How many of a thousand calls are of each function, in the order of their numbers.
-const SHARES: [u32; 12] = [20, 10, 10, 20, 15, 65, 30, 110, 60, 500, 40, 120];
+const SHARES: [u32; FUNCTIONS.len()] = [20, 10, 10, 20, 15, 65, 30, 110, 60, 500, 40, 120];
 
 impl Source {
     /// The next call of a run.
@@ -75,21 +77,21 @@ impl Source {
             Function::ScaleInPlace => Words::new().points(&self.motion(split).x).numbers(&[self.length()]),
             Function::SquaredDistance => Words::new().points(&self.placed(split)).word(split),
             Function::MaxRelativeNorm => Words::new().points(&self.placed(split)).word(split),
-            Function::Normalize => self.scaling(split),
+            Function::NormalizeCenterizedConfiguration => self.scaling(split),
             Function::QuadraticRoot => {
                 let c = self.polynomial().c;
                 let from = self.below(2) as usize;
                 Words::new().numbers(&c[from..from + 3])
             }
-            Function::CubicRoots => {
+            Function::CubicRootsInRangeZeroToT => {
                 let p = self.polynomial();
                 Words::new().numbers(&p.c).numbers(&[p.t, p.epsilon])
             }
-            Function::CoplanarTime => {
+            Function::CoplanarTimeMat3x4 => {
                 let motion = self.motion(split);
                 Words::new().points(&motion.x).points(&motion.dx)
             }
-            Function::SafeTime => self.safe_time(split),
+            Function::MaximumSafeTimeAccurate => self.safe_time(split),
         }
     }
 

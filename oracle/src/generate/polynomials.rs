@@ -2,8 +2,8 @@
 
 use super::numbers::{neighbour, Source};
 use super::rare;
-use crate::calls::Words;
 use crate::model::Coefficients;
+use crate::words::Words;
 
 /// 2^-23, below which a coefficient counts as missing.
 const MISSING: f32 = 1.0 / 8_388_608.0;

@@ -3,8 +3,8 @@
 
 use super::numbers::{neighbour, Source};
 use super::rare;
-use crate::calls::Words;
 use crate::model::{Limits, Points, Rules};
+use crate::words::Words;
 
 /// 2^-60, the least u_max.
 const SLOWEST: f32 = 1.0 / 1_152_921_504_606_846_976.0;

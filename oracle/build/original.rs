@@ -1,7 +1,8 @@
 //! Cuts the functions in scope out of the original's text, unedited, into files that `src/original.rs` includes. The
 //! original's folder is the environment variable URTEMVAL_RUST, or else where the project keeps it beside itself.
 
-use std::{env, fs, path::Path, path::PathBuf};
+use std::path::{Path, PathBuf};
+use std::{env, fs};
 
 /// Each file of the original with the first words of the items that are taken from it. An item is what stands from a
 /// line that begins so to the first line that is a closing brace alone; one that ends in a semicolon is its one line.
@@ -48,14 +49,12 @@ const ITEMS: [(&str, &[&str]); 5] = [
     ),
 ];
 
-fn main() {
-    println!("cargo:rerun-if-changed=build.rs");
+pub fn cut(out: &Path) {
     println!("cargo:rerun-if-env-changed=URTEMVAL_RUST");
     let folder = match env::var_os("URTEMVAL_RUST") {
         Some(given) => PathBuf::from(given),
         None => Path::new("..").join("..").join("shared").join("docs").join("src"),
     };
-    let out = PathBuf::from(env::var_os("OUT_DIR").expect("cargo gives OUT_DIR"));
     for (name, items) in ITEMS {
         let file = folder.join("del-geo-core").join("src").join(format!("{name}.rs"));
         println!("cargo:rerun-if-changed={}", file.display());
