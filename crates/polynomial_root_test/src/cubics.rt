@@ -1,54 +1,39 @@
 // Roots of cubics, and of cubics whose leading coefficients are missing.
 use crate::line::cubic;
-use crate::patterns::BOUND;
-use crate::patterns::MINUS_BOUND;
-use crate::patterns::MINUS_ONE;
-use crate::patterns::MINUS_ZERO;
-use crate::patterns::ONE;
-use crate::patterns::PRESENT;
-use crate::patterns::QUARTER;
-use crate::patterns::TWO;
 
 fn lower() {
     // constants below and at 2^-23; a linear root, one above t, one that is minus zero in the original
-    cubic(0x33ff_ffff, 0, 0, 0, ONE, 0);
-    cubic(PRESENT, 0, 0, 0, ONE, 0);
-    cubic(MINUS_ONE, TWO, 0, 0, ONE, 0);
-    cubic(MINUS_ONE, 0x4080_0000, 0, 0, QUARTER, 0);
-    cubic(0, ONE, 0, 0, ONE, 0);
+    cubic(1.1920928e-7, 0.0, 0.0, 0.0, 1.0, 0.0);
+    cubic(1.1920929e-7, 0.0, 0.0, 0.0, 1.0, 0.0);
+    cubic(-1.0, 2.0, 0.0, 0.0, 1.0, 0.0);
+    cubic(-1.0, 4.0, 0.0, 0.0, 0.25, 0.0);
+    cubic(0.0, 1.0, 0.0, 0.0, 1.0, 0.0);
     // a double root, and one that lies outside 0..t
-    cubic(QUARTER, MINUS_ONE, ONE, 0, ONE, 0);
-    cubic(QUARTER, MINUS_ONE, ONE, 0, QUARTER, 0);
-    cubic(TWO, 0xc040_0000, ONE, 0, ONE, 0);
+    cubic(0.25, -1.0, 1.0, 0.0, 1.0, 0.0);
+    cubic(0.25, -1.0, 1.0, 0.0, 0.25, 0.0);
+    cubic(2.0, -3.0, 1.0, 0.0, 1.0, 0.0);
 }
 
 fn full() {
     // a triple root; roots in the order of the spans, which is not ascending
-    cubic(0, 0, 0, ONE, ONE, 0x3580_0000);
+    cubic(0.0, 0.0, 0.0, 1.0, 1.0, 9.536743e-7);
     cubic(
-        0xbe12_832d,
-        0x3f92_832d,
-        0xc037_23f8,
-        0x4012_832d,
-        0x3f40_0000,
-        PRESENT,
+        -0.14307852,
+        1.1446282,
+        -2.8615704,
+        2.2892563,
+        0.75,
+        1.1920929e-7,
     );
-    cubic(
-        0xbea1_b41f,
-        0x3fe2_c2d7,
-        0xc053_bcfb,
-        0x4003_a864,
-        ONE,
-        MINUS_ZERO,
-    );
+    cubic(-0.31582734, 1.771571, -3.3084095, 2.0571527, 1.0, -0.0);
     // the slope is zero and the value is not: the step goes to an end of the range, to which one a zero's sign decides
-    cubic(0x8000_0200, 0, 0, ONE, ONE, 0);
-    cubic(0x8000_0200, MINUS_ZERO, MINUS_ZERO, ONE, ONE, 0);
-    cubic(0x0000_0200, 0, 0, MINUS_ONE, ONE, 0);
-    cubic(0x0000_0200, MINUS_ZERO, MINUS_ZERO, MINUS_ONE, ONE, 0);
+    cubic(-7.17e-43, 0.0, 0.0, 1.0, 1.0, 0.0);
+    cubic(-7.17e-43, -0.0, -0.0, 1.0, 1.0, 0.0);
+    cubic(7.17e-43, 0.0, 0.0, -1.0, 1.0, 0.0);
+    cubic(7.17e-43, -0.0, -0.0, -1.0, 1.0, 0.0);
     // no root of the slope; the largest coefficients
-    cubic(0xbf00_0000, ONE, 0, ONE, ONE, 0);
-    cubic(MINUS_BOUND, BOUND, MINUS_BOUND, BOUND, ONE, 0);
+    cubic(-0.5, 1.0, 0.0, 1.0, 1.0, 0.0);
+    cubic(-1048576.0, 1048576.0, -1048576.0, 1048576.0, 1.0, 0.0);
 }
 
 pub(crate) fn all() {

@@ -2,7 +2,6 @@
 // with the original (polynomial_root.rs), a refusal from where and why it stops, or from a NaN among its roots.
 mod cubics;
 mod line;
-mod patterns;
 mod quadratics;
 mod refused_cubics;
 

@@ -104,47 +104,44 @@ fn answer(face: &str, call: &Call) -> Vec<u32> {
     }
 }
 
-fn main() {
-    let (calls, answers, table) = (
-        stream::list("stdin"),
-        stream::list("stdout"),
-        stream::table(),
-    );
-    let mut counts = BTreeMap::new();
-    let (mut queries, mut times) = (Vec::new(), Vec::new());
-    for call in stream::calls(&table, &calls, &answers) {
-        let face = match call.function.face {
-            Some(face) => face,
-            None => continue,
-        };
-        let count: &mut usize = counts.entry(face).or_default();
-        assert_eq!(answer(face, &call), call.expected, "call {count} of {face}");
-        *count += 1;
-        if face == "safe_time" {
-            if let Some(split) = split(&call) {
-                queries.push(query(&call, split));
-                times.push(call.expected);
-            }
-        }
-    }
-
-    for (got, expected) in urtemval::safe_times(&queries).into_iter().zip(&times) {
-        assert_eq!(told::safe_time(got), *expected, "safe_times");
+/// Safe times once more, all at once; says how many.
+fn at_once(calls: &[Call]) -> usize {
+    let safe_times = calls
+        .iter()
+        .filter(|call| call.function.face == Some("safe_time"));
+    let asked = safe_times.filter_map(|call| Some((query(call, split(call)?), call.expected)));
+    let (queries, expected): (Vec<Query>, Vec<&[u32]>) = asked.unzip();
+    for (got, expected) in urtemval::safe_times(&queries).into_iter().zip(expected) {
+        assert_eq!(told::safe_time(got), expected, "safe_times");
     }
     assert_eq!(urtemval::safe_times(&[]), []);
+    queries.len()
+}
 
-    let exported = table.iter().filter_map(|function| function.face);
-    let told = exported.map(|face| {
-        let count = counts.get(face);
-        format!(
-            "{face} {}",
-            count.unwrap_or_else(|| panic!("{face} is not called"))
-        )
-    });
+fn main() {
+    let (stream, answers) = (stream::list("stdin"), stream::list("stdout"));
+    let table = stream::table();
+    let calls = stream::calls(&table, &stream, &answers);
+    let mut counts: BTreeMap<&str, usize> = BTreeMap::new();
+    for call in &calls {
+        if let Some(face) = call.function.face {
+            let count = counts.entry(face).or_default();
+            assert_eq!(answer(face, call), call.expected, "call {count} of {face}");
+            *count += 1;
+        }
+    }
+    let told = table
+        .iter()
+        .filter_map(|function| function.face)
+        .map(|face| {
+            let count = counts.get(face);
+            let count = count.unwrap_or_else(|| panic!("{face} is not called"));
+            format!("{face} {count}")
+        });
     println!(
         "{}; {} calls, and {} safe times at once, all answered as in the frozen list",
         told.collect::<Vec<_>>().join(", "),
         counts.values().sum::<usize>(),
-        queries.len()
+        at_once(&calls)
     );
 }

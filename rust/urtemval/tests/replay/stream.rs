@@ -102,7 +102,10 @@ pub fn calls<'a>(table: &'a [Function], stream: &'a [u32], answers: &'a [u32]) -
     let mut answers = answers;
     for block in stream.chunks(BLOCK / 4) {
         let mut rest = block;
-        while let [number @ 1.., words @ ..] = rest {
+        while let [number, words @ ..] = rest {
+            if *number == 0 {
+                break;
+            }
             let function = &table[*number as usize - 1];
             let (words, later) = words.split_at(words_of(&function.arguments));
             let (expected, more) = answers.split_at(words_of(&function.answer));
