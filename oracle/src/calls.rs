@@ -16,7 +16,7 @@ pub struct Call {
 
 impl Call {
     pub fn new(function: Function, arguments: Words) -> Call {
-        assert_eq!(arguments.count(), function.arguments());
+        assert_eq!(arguments.count(), function.arguments(), "the arguments of {}", function.name());
         Call { function, arguments }
     }
 

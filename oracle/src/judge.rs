@@ -5,31 +5,27 @@ use crate::calls::Call;
 use crate::cover::{self, Branch};
 use crate::functions::{Field, Function};
 use crate::model::Rules;
+use crate::named::named;
 use crate::sides::{by_model, by_original, Outcome};
 use crate::words::Words;
 
-macro_rules! entries {
-    ($($name:ident: $text:literal,)*) => {
-        #[derive(Clone, Copy, PartialEq, Eq, Debug)]
-        pub enum Entry { $($name,)* }
-
-        /// The headings of docs/DIFFERENCES.md, in the order of the enum.
-        pub const ENTRIES: &[&str] = &[$($text,)*];
-    };
-}
-
-entries! {
-    NotFinite: "not-finite",
-    Limits: "limits",
-    Band: "band",
-    BothZero: "both-zero",
-    Guess: "guess",
-    NoSlope: "no-slope",
-    LeadingZero: "leading-zero",
-    Endless: "endless",
-    Infinity: "infinity",
-    PlusZero: "plus-zero",
-    TouchingCount: "touching-count",
+named! {
+    /// An entry of docs/DIFFERENCES.md.
+    Entry,
+    /// The headings there.
+    ENTRIES {
+        NotFinite: "not-finite",
+        Limits: "limits",
+        Band: "band",
+        BothZero: "both-zero",
+        Guess: "guess",
+        NoSlope: "no-slope",
+        LeadingZero: "leading-zero",
+        Endless: "endless",
+        Infinity: "infinity",
+        PlusZero: "plus-zero",
+        TouchingCount: "touching-count",
+    }
 }
 
 /// How the rules' answer stands to the original's.

@@ -13,6 +13,7 @@ mod functions;
 mod generate;
 mod judge;
 mod model;
+mod named;
 mod outside;
 mod scenes;
 mod sides;

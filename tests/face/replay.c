@@ -146,8 +146,10 @@ int main(int count, char **words)
     for (int f = 1; f < FUNCTIONS; f++) {
         if (names[f][0] == 0)
             continue;
-        if (calls[f] == 0)
-            fail("an exported function is not called");
+        if (calls[f] == 0) {
+            fprintf(stderr, "replay: urtemval_%s is not called\n", names[f]);
+            return 1;
+        }
         printf("%s%s %ld", f == 1 ? "" : ", ", names[f], calls[f]);
     }
     printf("; %ld calls, all answered as in the frozen list\n", all);

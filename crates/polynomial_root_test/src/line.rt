@@ -6,8 +6,8 @@ pub(crate) fn nan() -> f32 {
     0.0 / 0.0
 }
 
-pub(crate) fn infinity() -> f32 {
-    1.0 / 0.0
+pub(crate) fn minus_infinity() -> f32 {
+    -1.0 / 0.0
 }
 
 // The bits of a number; of an answered NaN, which there is none, all ones.

@@ -1,5 +1,5 @@
 // Roots of quadratics.
-use crate::line::infinity;
+use crate::line::minus_infinity;
 use crate::line::nan;
 use crate::line::quadratic;
 
@@ -12,7 +12,7 @@ pub(crate) fn all() {
     quadratic(1.0, 1.0, -0.0);
     // a NaN beside a number out of range, an infinity, both ends of the range and the next f32 above
     quadratic(nan(), 1.7014118e38, 1.0);
-    quadratic(1.0, -infinity(), 0.0);
+    quadratic(1.0, minus_infinity(), 0.0);
     quadratic(1048576.0, -1048576.0, 1048576.0);
     quadratic(1048576.1, 0.0, 0.0);
     // one root is infinite
