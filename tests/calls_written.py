@@ -1,6 +1,6 @@
 """What follows from the table of the stream of calls (tests/calls.txt) and stands in the sources: the sizes of
-`answers`, crates/answers/src/sizes.rt, and the table of docs/TESTING.md are made of it; the other files of `answers` are
-held to it.
+`answers`, crates/answers/src/sizes.rt, and the table of docs/TESTING.md are made of it; the other files of `answers`
+are held to it.
 
   calls_written.py --write  makes the two
 
@@ -101,9 +101,11 @@ def told(fields):
 
 
 def markdown(functions):
-    cell = lambda name: f"`{name}`" if name else ""
-    rows = (f"| {f.number} | {cell(f.name)} | {cell(f.face)} | {told(f.call)} | {told(f.answer)} |\n" for f in functions)
-    return HEAD + "".join(rows).replace("|  |", "| |")
+    text = HEAD
+    for f in functions:
+        face = f" `{f.face}`" if f.face else ""
+        text += f"| {f.number} | `{f.name}` |{face} | {told(f.call)} | {told(f.answer)} |\n"
+    return text
 
 
 def with_table(text, functions):

@@ -1,7 +1,7 @@
 #!/usr/bin/env python3
 """declared.py rattle|c|rust|layout|words: the exported functions and their records, one a line, in words that are the
-same for the three languages. `rattle` reads the sources of the archive, `c` the header, `rust` the crate's declarations;
-tests/link holds the three lists to each other. `layout` prints the sizes and offsets that follow from the Rattle
+same for the three languages. `rattle` reads the sources of the archive, `c` the header, `rust` the crate's
+declarations; tests/link holds the three lists to each other. `layout` prints the sizes and offsets that follow from the Rattle
 records, and the numbers of the kinds, as tests/face/layout.c and the Rust crate's test `layout` print them. `words`
 prints the words of each function's parameters and answer, as `tests/calls.py face` prints those of the stream.
 """

@@ -1,4 +1,5 @@
-//! The frozen list as calls with their answers, by the table of the stream (tests/calls.txt, which says what a line is).
+//! The frozen list as calls with their answers, by the table of the stream (tests/calls.txt, which says what a line
+//! is).
 
 use std::path::Path;
 use urtemval::Points;
