@@ -5,8 +5,8 @@ use std::io::{Read, Write};
 use crate::calls::{decode, Call, BLOCK};
 use crate::compare;
 use crate::functions::Function;
-use crate::judge::refusal_of;
 use crate::model::Rules;
+use crate::refusals::refusal_of;
 use crate::sides::by_model;
 use crate::words::Words;
 

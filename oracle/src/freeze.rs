@@ -8,8 +8,9 @@ use crate::calls::Packer;
 use crate::cover;
 use crate::functions::{FUNCTIONS, MOST};
 use crate::generate::Source;
-use crate::judge::{judged, refusal_of, Judged, Relation, ENTRIES, REFUSALS};
+use crate::judge::{judged, Judged, Relation, ENTRIES};
 use crate::outside::{only_outside, WAYS};
+use crate::refusals::{refusal_of, REFUSALS};
 use crate::tally::Tally;
 
 /// How many calls there are.

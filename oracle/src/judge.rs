@@ -6,6 +6,7 @@ use crate::cover::{self, Branch};
 use crate::functions::{Field, Function};
 use crate::model::Rules;
 use crate::named::named;
+use crate::refusals::refusal_of;
 use crate::sides::{by_model, by_original, Outcome};
 use crate::words::Words;
 
@@ -51,17 +52,11 @@ impl Judged {
     }
 }
 
-/// Refusals are below this number.
-pub const REFUSALS: usize = 10;
-
-pub fn refusal_of(answer: &Words) -> u32 {
-    answer.as_slice()[0]
-}
-
 /// Asks the model, and the original where it can be asked.
 pub fn judged(call: Call) -> Judged {
     cover::taken();
     let expected = by_model(&Rules::DOCUMENT, &call);
+    assert_eq!(expected.count(), call.function.answers(), "the answer of {}", call.function.name());
     let branches = cover::taken();
     let endless = branches >> Branch::ScaleExactlyEight as u32 & 1 == 1;
     let relation = match refusal_of(&expected) {

@@ -15,6 +15,7 @@ mod judge;
 mod model;
 mod named;
 mod outside;
+mod refusals;
 mod scenes;
 mod sides;
 mod tally;

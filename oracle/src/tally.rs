@@ -3,28 +3,11 @@
 
 use crate::cover;
 use crate::functions::{Function, FUNCTIONS, MOST};
-use crate::judge::{refusal_of, Judged, Relation, ENTRIES, REFUSALS};
+use crate::judge::{Judged, Relation, ENTRIES};
 use crate::outside::{only_outside, ways, WAYS};
+use crate::refusals::{refusal_of, refusals, REFUSALS};
 use crate::sides::KINDS;
 use crate::words::{hex, Words};
-
-/// The refusals that each function can give, besides an answer.
-fn refusals(function: Function) -> &'static [u32] {
-    match function {
-        Function::MaximumSafeTimeAccurate => &[1, 2, 3],
-        Function::NormalizeCenterizedConfiguration => &[1, 2, 4, 5],
-        Function::QuadraticRoot => &[1, 2, 9],
-        Function::CubicRootsInRangeZeroToT => &[1, 2, 6, 7, 8],
-        Function::CoplanarTimeMat3x4 => &[1, 2, 6, 8],
-        Function::SquareRoot
-        | Function::Lerp
-        | Function::AddScaled
-        | Function::Centerize
-        | Function::ScaleInPlace
-        | Function::SquaredDistance
-        | Function::MaxRelativeNorm => &[1, 2],
-    }
-}
 
 pub struct Tally {
     refused: [[u64; REFUSALS]; FUNCTIONS.len()],
