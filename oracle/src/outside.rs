@@ -5,6 +5,7 @@
 use crate::calls::Call;
 use crate::functions::Function;
 use crate::generate::neighbour;
+use crate::model::{BOUND, FASTEST};
 use crate::words::NAN;
 
 pub enum Allowed {
@@ -16,16 +17,14 @@ pub enum Allowed {
 
 /// What is allowed goes by the name of the field; t and x mean other things in two functions each.
 pub fn allowed(function: Function, place: usize) -> Allowed {
-    let limit = 1_048_576.0;
-    let fastest = 1_152_921_504_606_846_976.0;
     let (low, high) = match function.name_at(place) {
         "split" => return Allowed::Split,
         "x" if function == Function::SquareRoot => (0.0, f32::MAX),
-        "x" | "x0" | "dx" | "p0" | "p1" | "c0" | "c1" | "c2" | "c3" => (-limit, limit),
+        "x" | "x0" | "dx" | "p0" | "p1" | "c0" | "c1" | "c2" | "c3" => (-BOUND, BOUND),
         "t" if function == Function::CubicRootsInRangeZeroToT => (1.0e-45, 1.0),
         "t" | "max_t" | "ratio" => (0.0, 1.0),
-        "s" | "epsilon" | "offset" | "clearance" => (0.0, limit),
-        "u_max" => (1.0 / fastest, fastest),
+        "s" | "epsilon" | "offset" | "clearance" => (0.0, BOUND),
+        "u_max" => (1.0 / FASTEST, FASTEST),
         name => panic!("{}: it is not said what is allowed as {name}", function.name()),
     };
     Allowed::Number(low, high)

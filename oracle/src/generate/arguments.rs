@@ -1,7 +1,7 @@
 //! Single arguments: splits, points, an argument of the square root, times, lengths.
 
 use super::numbers::{neighbour, Source};
-use crate::model::Points;
+use crate::model::{Points, BOUND};
 
 impl Source {
     pub fn split(&mut self) -> u32 {
@@ -51,7 +51,7 @@ impl Source {
     /// A length or a factor from 0 to 2^20.
     pub fn length(&mut self) -> f32 {
         match self.below(8) {
-            0 => self.pick(&[0.0, -0.0, 1.0e-45, 1_048_576.0]),
+            0 => self.pick(&[0.0, -0.0, 1.0e-45, BOUND]),
             1 => self.sized(-149, 19),
             2 => self.sized(-20, 10),
             _ => self.sized(-12, 0),
