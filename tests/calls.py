@@ -43,6 +43,8 @@ def fields(text):
     for name, words in re.findall(r"(\w+)(?::(\d+))?", text):
         found.append(Field(name, at, int(words or 1)))
         at += found[-1].words
+    if len({field.name for field in found}) < len(found):
+        sys.exit(f"tests/calls.txt:{text} has a name twice")
     return found
 
 
