@@ -1,4 +1,5 @@
-/* The judge of the square root: makes bit patterns, and holds the answers of `root_test` to the machine's own root.
+/* The judge of the square root: makes bit patterns, and holds the answers of `square_root_test` to the machine's own
+   root.
 
    root_oracle patterns            writes the patterns, four bytes each, lowest first
    root_oracle judge PATTERNS ANSWERS

@@ -8,11 +8,14 @@
 - Each definition of specs/ is reached from a contract; each law of proofs/ is cited, or stands in STATEMENTS.md, whose
   laws are there; each function is called; each import is used.
 - docs/CONTRIBUTING.md lists each file of laws, proofs/NAME.antt, once, and has each library crate in its drawing.
+- What follows from the table of the stream of calls, tests/calls.txt, stands as that has it (tests/calls_written.py).
 """
 import re
 import sys
 from collections import Counter
 from pathlib import Path
+
+import calls_written
 
 ROOT = Path(__file__).resolve().parent.parent
 CRATES = ROOT / "crates"
@@ -316,6 +319,7 @@ hold_laws()
 functions, edits = hold_statements()
 files, lines = hold_readme()
 hold_map()
+faults += calls_written.faults()
 for each in faults:
     print(f"tests/sources: {each}")
 print(

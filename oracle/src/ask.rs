@@ -4,10 +4,11 @@ use std::process::{Child, Command, Stdio};
 use std::thread::sleep;
 use std::time::Duration;
 
-use crate::calls::{hex, Call};
+use crate::calls::Call;
 use crate::examples::EXAMPLES;
 use crate::judge::{judged, Relation, ENTRIES};
 use crate::sides::{by_original, Outcome};
+use crate::words::hex;
 
 /// How long the original may take, in tenths of a second.
 const PATIENCE: u32 = 30;

@@ -1,19 +1,21 @@
-//! A run: the corners of the rules, the calls that every run makes, and calls from one seed, each judged, and a program's
-//! answers over pipes held to what is expected.
+//! A run: the corners of the rules, the calls that every run makes, and calls from one seed, each judged, and a
+//! program's answers over pipes held to what is expected.
 
 use std::io::{Read, Write};
 use std::process::{Child, Command, Stdio};
 use std::sync::mpsc::{sync_channel, Receiver};
 use std::thread;
 
-use crate::calls::{answer_from, Call, Function, Packer};
+use crate::calls::{Call, Packer};
 use crate::corners;
+use crate::functions::Function;
 use crate::generate::Source;
 use crate::judge::{judged, Judged};
 use crate::tally::Tally;
+use crate::words::answer_from;
 
-/// Which calls a run makes: the corners and the listed ones, then so many from a seed; of the functions named alone where
-/// some are.
+/// Which calls a run makes: the corners and the listed ones, then so many from a seed; of the functions named alone
+/// where some are.
 pub struct Plan {
     pub seed: u64,
     pub calls: u64,
@@ -32,8 +34,8 @@ impl Plan {
 /// How many blocks may be under way.
 const UNDER_WAY: usize = 8;
 
-/// A run with what it met printed. Answers whether all is well: no difference, every corner as it is listed, and nothing
-/// left out that a run of every function can meet.
+/// A run with what it met printed. Answers whether all is well: no difference, every corner as it is listed, and
+/// nothing left out that a run of every function can meet.
 pub fn report(plan: &Plan, program: &[String]) -> bool {
     let corners_stand = corners::hold();
     let tally = if program.is_empty() { run(plan) } else { run_program(plan, program, false, false) };

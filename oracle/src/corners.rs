@@ -1,8 +1,9 @@
 //! The corners of docs/01-scope.md ("Corners to check"): each a call and the answer that the document gives it, as
 //! words in hex. Every comparison begins with them; the expected answers are held to the rules and to the original.
 
-use crate::calls::{hex, Call};
+use crate::calls::Call;
 use crate::judge::{judged, Relation};
+use crate::words::hex;
 
 /// A corner: what it is, the call, the answer.
 pub struct Corner {

@@ -2,11 +2,13 @@
 
 use std::io::{Read, Write};
 
-use crate::calls::{decode, Call, Function, Words, BLOCK};
+use crate::calls::{decode, Call, BLOCK};
 use crate::compare;
-use crate::judge::refusal_of;
+use crate::functions::Function;
 use crate::model::Rules;
+use crate::refusals::refusal_of;
 use crate::sides::by_model;
+use crate::words::Words;
 
 /// A rule that is changed, or answers that are changed after it.
 struct Fault {
@@ -48,21 +50,23 @@ fn renumber(answer: &mut Words, from: u32, to: u32) {
 }
 
 fn one_halving_fewer(call: &Call, answer: &mut Words) {
-    if call.function == Function::SafeTime && answer.as_slice()[4] > 0 {
-        answer.set(4, answer.as_slice()[4] - 1);
+    if call.function == Function::MaximumSafeTimeAccurate {
+        let place = call.function.answer("halvings").at;
+        answer.set(place, answer.as_slice()[place].saturating_sub(1));
     }
 }
 
 fn minus_zero_time(call: &Call, answer: &mut Words) {
-    let limit_is_minus_zero = || call.arguments.as_slice()[27] == 0x8000_0000;
-    if call.function == Function::SafeTime && answer.as_slice()[..2] == [0, 2] && limit_is_minus_zero() {
-        answer.set(2, 0x8000_0000);
+    let minus_zero = (-0.0f32).to_bits();
+    let clear = || answer.as_slice()[call.function.answer("kind").at] == 2;
+    if call.function == Function::MaximumSafeTimeAccurate && clear() && call.word("max_t") == minus_zero {
+        answer.set(call.function.answer("time").at, minus_zero);
     }
 }
 
 fn refused_pair_written(call: &Call, answer: &mut Words) {
-    if call.function == Function::Normalize && refusal_of(answer) == 5 {
-        answer.set(25, f32::INFINITY.to_bits());
+    if call.function == Function::NormalizeCenterizedConfiguration && refusal_of(answer) == 5 {
+        answer.set(call.function.answer("dx").at, f32::INFINITY.to_bits());
     }
 }
 

@@ -4,11 +4,13 @@
 use std::fs;
 use std::path::Path;
 
-use crate::calls::{Packer, FUNCTIONS, MOST};
+use crate::calls::Packer;
 use crate::cover;
+use crate::functions::{FUNCTIONS, MOST};
 use crate::generate::Source;
-use crate::judge::{judged, refusal_of, Judged, Relation, ENTRIES};
+use crate::judge::{judged, Judged, Relation, ENTRIES};
 use crate::outside::{only_outside, WAYS};
+use crate::refusals::{refusal_of, REFUSALS};
 use crate::tally::Tally;
 
 /// How many calls there are.
@@ -26,9 +28,9 @@ const SEED: u64 = 20_480;
 fn shows(judged: &Judged) -> impl Iterator<Item = (usize, u32)> {
     let (branches, function) = (judged.branches, judged.call.function as usize);
     let refusals = cover::NAMES.len();
-    let entries = refusals + 10 * FUNCTIONS.len();
+    let entries = refusals + REFUSALS * FUNCTIONS.len();
     let places = entries + ENTRIES.len();
-    let refusal = refusals + 10 * function + refusal_of(&judged.expected) as usize;
+    let refusal = refusals + REFUSALS * function + refusal_of(&judged.expected) as usize;
     let entry = match judged.relation {
         Relation::Listed(entry) => Some((entries + entry as usize, OF_EACH)),
         _ => None,
@@ -40,7 +42,8 @@ fn shows(judged: &Judged) -> impl Iterator<Item = (usize, u32)> {
 }
 
 /// How many places that table has.
-const TABLE: usize = cover::NAMES.len() + 10 * FUNCTIONS.len() + ENTRIES.len() + FUNCTIONS.len() * MOST * WAYS.len();
+const TABLE: usize =
+    cover::NAMES.len() + REFUSALS * FUNCTIONS.len() + ENTRIES.len() + FUNCTIONS.len() * MOST * WAYS.len();
 
 /// The calls of the list, and what they met.
 fn sample() -> (Vec<Judged>, Tally) {

@@ -1,33 +1,32 @@
 //! What an answer is held to: the original's where it answers, and the rule where that differs by design.
 //! Each intended difference is an entry of docs/DIFFERENCES.md; a difference with no entry fails.
 
-use crate::calls::{Call, Function, Words};
+use crate::calls::Call;
 use crate::cover::{self, Branch};
+use crate::functions::{Field, Function};
 use crate::model::Rules;
+use crate::named::named;
+use crate::refusals::refusal_of;
 use crate::sides::{by_model, by_original, Outcome};
+use crate::words::Words;
 
-macro_rules! entries {
-    ($($name:ident: $text:literal,)*) => {
-        #[derive(Clone, Copy, PartialEq, Eq, Debug)]
-        pub enum Entry { $($name,)* }
-
-        /// The headings of docs/DIFFERENCES.md, in the order of the enum.
-        pub const ENTRIES: &[&str] = &[$($text,)*];
-    };
-}
-
-entries! {
-    NotFinite: "not-finite",
-    Limits: "limits",
-    Band: "band",
-    BothZero: "both-zero",
-    Guess: "guess",
-    NoSlope: "no-slope",
-    LeadingZero: "leading-zero",
-    Endless: "endless",
-    Infinity: "infinity",
-    PlusZero: "plus-zero",
-    TouchingCount: "touching-count",
+named! {
+    /// An entry of docs/DIFFERENCES.md.
+    Entry,
+    /// The headings there.
+    ENTRIES {
+        NotFinite: "not-finite",
+        Limits: "limits",
+        Band: "band",
+        BothZero: "both-zero",
+        Guess: "guess",
+        NoSlope: "no-slope",
+        LeadingZero: "leading-zero",
+        Endless: "endless",
+        Infinity: "infinity",
+        PlusZero: "plus-zero",
+        TouchingCount: "touching-count",
+    }
 }
 
 /// How the rules' answer stands to the original's.
@@ -46,14 +45,18 @@ pub struct Judged {
     pub branches: u128,
 }
 
-pub fn refusal_of(answer: &Words) -> u32 {
-    answer.as_slice()[0]
+impl Judged {
+    /// A word of the expected answer, by the name of its field.
+    pub fn word(&self, name: &str) -> u32 {
+        self.expected.as_slice()[self.call.function.answer(name).at]
+    }
 }
 
 /// Asks the model, and the original where it can be asked.
 pub fn judged(call: Call) -> Judged {
     cover::taken();
     let expected = by_model(&Rules::DOCUMENT, &call);
+    assert_eq!(expected.count(), call.function.answers(), "the answer of {}", call.function.name());
     let branches = cover::taken();
     let endless = branches >> Branch::ScaleExactlyEight as u32 & 1 == 1;
     let relation = match refusal_of(&expected) {
@@ -67,8 +70,11 @@ pub fn judged(call: Call) -> Judged {
 }
 
 fn relation(call: &Call, refusal: u32, expected: &Words, original: &Outcome) -> Relation {
-    let has = |test: fn(f32) -> bool, from: usize| match original {
-        Outcome::Answered(words) => (from..words.as_slice().len()).any(|i| test(words.number(i))),
+    let has = |test: fn(f32) -> bool, from: &str| match original {
+        Outcome::Answered(words) => {
+            let from = call.function.answer(from).at;
+            (from..words.as_slice().len()).any(|i| test(words.number(i)))
+        }
         Outcome::Stopped => false,
     };
     let stopped = matches!(original, Outcome::Stopped);
@@ -82,11 +88,11 @@ fn relation(call: &Call, refusal: u32, expected: &Words, original: &Outcome) -> 
             Outcome::Answered(words) if words.as_slice() == expected.as_slice() => Relation::Same,
             _ => Relation::Unlisted,
         },
-        5 if has(f32::is_infinite, 2) => Relation::Listed(Entry::Infinity),
+        5 if has(f32::is_infinite, "x") => Relation::Listed(Entry::Infinity),
         6 if stopped => Relation::Listed(Entry::BothZero),
         7 if stopped => Relation::Listed(Entry::Guess),
         // after the NaN of one span, another span may still stop it
-        8 if stopped || has(f32::is_nan, 2) => Relation::Listed(Entry::NoSlope),
+        8 if stopped || has(f32::is_nan, "roots") => Relation::Listed(Entry::NoSlope),
         9 if stopped => Relation::Listed(Entry::LeadingZero),
         _ => Relation::Unlisted,
     }
@@ -95,23 +101,20 @@ fn relation(call: &Call, refusal: u32, expected: &Words, original: &Outcome) -> 
 /// Where both answer: bit for bit, but for the sign of a zero time or root and the counts of a touching pair.
 fn answered(call: &Call, expected: &Words, original: &Words) -> Relation {
     let (ours, theirs) = (expected.as_slice(), original.as_slice());
-    let signs_free = match call.function {
-        Function::SafeTime => 2..3,
-        Function::QuadraticRoot | Function::CubicRoots | Function::CoplanarTime => 2..5,
-        Function::SquareRoot => 1..2,
-        _ => 0..0,
-    };
+    let times_or_roots = |field: &&Field| matches!(field.name, "time" | "roots" | "root");
+    let signs_free = call.function.answer_fields().iter().find(times_or_roots).map_or(0..0, Field::places);
     let zeros = |i: usize| signs_free.contains(&i) && expected.number(i) == 0.0 && original.number(i) == 0.0;
     let differing: Vec<usize> = (0..ours.len()).filter(|&i| ours[i] != theirs[i]).collect();
-    if call.function == Function::SafeTime {
-        let touching = ours[1] == 0;
+    if call.function == Function::MaximumSafeTimeAccurate {
+        let [kind, halvings] = ["kind", "halvings"].map(|name| call.function.answer(name).at);
+        let touching = ours[kind] == 0;
         // the original names no kind but a contact, and halves once where the pair starts at park squared
-        let others: Vec<usize> = differing.iter().copied().filter(|&i| i != 1).collect();
-        let contact_told = (ours[1] == 1) == (theirs[1] == 1);
-        return match &others[..] {
+        let others: Vec<usize> = differing.iter().copied().filter(|&i| i != kind).collect();
+        let contact_told = (ours[kind] == 1) == (theirs[kind] == 1);
+        return match others[..] {
             [] if contact_told => Relation::Same,
-            [2] if contact_told && zeros(2) => Relation::Listed(Entry::PlusZero),
-            [4] if touching && theirs[4] == 1 => Relation::Listed(Entry::TouchingCount),
+            [time] if contact_told && zeros(time) => Relation::Listed(Entry::PlusZero),
+            [count] if count == halvings && touching && theirs[count] == 1 => Relation::Listed(Entry::TouchingCount),
             _ => Relation::Unlisted,
         };
     }

@@ -9,15 +9,19 @@ mod cover;
 mod examples;
 mod faults;
 mod freeze;
+mod functions;
 mod generate;
 mod judge;
 mod model;
+mod named;
 mod outside;
+mod refusals;
 mod scenes;
 mod sides;
 mod tally;
+mod words;
 
-use calls::Function;
+use functions::Function;
 use std::path::Path;
 use std::process::ExitCode;
 

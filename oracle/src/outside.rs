@@ -2,8 +2,11 @@
 //! allowed"), and in which ways one can be outside of it: for the generator, and to see that a run met each way at each
 //! place.
 
-use crate::calls::{Call, Function, NAN};
+use crate::calls::Call;
+use crate::functions::Function;
 use crate::generate::neighbour;
+use crate::model::{BOUND, FASTEST};
+use crate::words::NAN;
 
 pub enum Allowed {
     /// 2 or 3.
@@ -12,19 +15,17 @@ pub enum Allowed {
     Number(f32, f32),
 }
 
+/// What is allowed goes by the name of the field; t and x mean other things in two functions each.
 pub fn allowed(function: Function, place: usize) -> Allowed {
-    let limit = 1_048_576.0;
-    let fastest = 1_152_921_504_606_846_976.0;
-    let (low, high) = match (function, place) {
-        (Function::SquaredDistance | Function::MaxRelativeNorm, 12) | (Function::SafeTime, 24) => {
-            return Allowed::Split
-        }
-        (Function::SquareRoot, _) => (0.0, f32::MAX),
-        (Function::Lerp, 6) | (Function::AddScaled | Function::Normalize, 24) | (Function::SafeTime, 27) => (0.0, 1.0),
-        (Function::CubicRoots, 4) => (1.0e-45, 1.0),
-        (Function::ScaleInPlace, 12) | (Function::CubicRoots, 5) | (Function::SafeTime, 25 | 26) => (0.0, limit),
-        (Function::SafeTime, 28) => (1.0 / fastest, fastest),
-        _ => (-limit, limit),
+    let (low, high) = match function.name_at(place) {
+        "split" => return Allowed::Split,
+        "x" if function == Function::SquareRoot => (0.0, f32::MAX),
+        "x" | "x0" | "dx" | "p0" | "p1" | "c0" | "c1" | "c2" | "c3" => (-BOUND, BOUND),
+        "t" if function == Function::CubicRootsInRangeZeroToT => (1.0e-45, 1.0),
+        "t" | "max_t" | "ratio" => (0.0, 1.0),
+        "s" | "epsilon" | "offset" | "clearance" => (0.0, BOUND),
+        "u_max" => (1.0 / FASTEST, FASTEST),
+        name => panic!("{}: it is not said what is allowed as {name}", function.name()),
     };
     Allowed::Number(low, high)
 }

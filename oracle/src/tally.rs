@@ -1,27 +1,17 @@
 //! What a run met: calls and refusals of each function, kinds of safe times, branches, entries of the differences; and
 //! the differences that no entry has.
 
-use crate::calls::{hex, Function, Words, FUNCTIONS, MOST};
 use crate::cover;
-use crate::judge::{refusal_of, Judged, Relation, ENTRIES};
+use crate::functions::{Function, FUNCTIONS, MOST};
+use crate::judge::{Judged, Relation, ENTRIES};
 use crate::outside::{only_outside, ways, WAYS};
+use crate::refusals::{refusal_of, refusals, REFUSALS};
 use crate::sides::KINDS;
-
-/// The refusals that each function can give, besides an answer.
-fn refusals(function: Function) -> &'static [u32] {
-    match function {
-        Function::SafeTime => &[1, 2, 3],
-        Function::Normalize => &[1, 2, 4, 5],
-        Function::QuadraticRoot => &[1, 2, 9],
-        Function::CubicRoots => &[1, 2, 6, 7, 8],
-        Function::CoplanarTime => &[1, 2, 6, 8],
-        _ => &[1, 2],
-    }
-}
+use crate::words::{hex, Words};
 
 pub struct Tally {
-    refused: [[u64; 10]; 12],
-    kinds: [u64; 5],
+    refused: [[u64; REFUSALS]; FUNCTIONS.len()],
+    kinds: [u64; KINDS.len()],
     branches: Vec<u64>,
     entries: Vec<u64>,
     /// by function, place and way
@@ -35,8 +25,8 @@ pub struct Tally {
 impl Tally {
     pub fn new() -> Tally {
         Tally {
-            refused: [[0; 10]; 12],
-            kinds: [0; 5],
+            refused: [[0; REFUSALS]; FUNCTIONS.len()],
+            kinds: [0; KINDS.len()],
             branches: vec![0; cover::NAMES.len()],
             entries: vec![0; ENTRIES.len()],
             outside: vec![[[0; WAYS.len()]; MOST]; FUNCTIONS.len()],
@@ -53,11 +43,10 @@ impl Tally {
 
     /// Counts a call, and its difference where the rules' answer is not the original's and no entry says why.
     pub fn note(&mut self, judged: &Judged) {
-        let answer = judged.expected.as_slice();
         self.refused[judged.call.function as usize][refusal_of(&judged.expected) as usize] += 1;
-        if judged.call.function == Function::SafeTime {
-            self.kinds[answer[1] as usize] += 1;
-            self.most_halvings = self.most_halvings.max(answer[4]);
+        if judged.call.function == Function::MaximumSafeTimeAccurate {
+            self.kinds[judged.word("kind") as usize] += 1;
+            self.most_halvings = self.most_halvings.max(judged.word("halvings"));
         }
         for (i, count) in self.branches.iter_mut().enumerate() {
             *count += (judged.branches >> i & 1) as u64;
@@ -147,7 +136,7 @@ impl Tally {
     pub fn print(&self) {
         for function in FUNCTIONS {
             let counts = &self.refused[function as usize];
-            let refusals = (1..10).filter(|&i| counts[i] > 0).map(|i| format!("refusal {i}: {}", counts[i]));
+            let refusals = (1..REFUSALS).filter(|&i| counts[i] > 0).map(|i| format!("refusal {i}: {}", counts[i]));
             let all: Vec<String> = refusals.collect();
             println!("{:>10} {}, answered: {}, {}", self.of(function), function.name(), counts[0], all.join(", "));
         }

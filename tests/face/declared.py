@@ -1,10 +1,11 @@
 #!/usr/bin/env python3
-"""declared.py rattle|c|rust|layout|texts: the exported functions and their records, one a line, in words that are the
-same for the three languages. `rattle` reads the sources of the archive, `c` the header, `rust` the crate's
+"""declared.py rattle|c|rust|layout|texts|words: the exported functions and their records, one a line, in words that are
+the same for the three languages. `rattle` reads the sources of the archive, `c` the header, `rust` the crate's
 declarations; tests/link holds the three lists to each other. `layout` prints the sizes and offsets that follow from the
 Rattle records, and the numbers of the kinds, as tests/face/layout.c and the Rust crate's test `layout` print them.
 `texts` prints README.md's table of refusals as these two print theirs, without those of scenes, which no exported
-function answers.
+function answers. `words` prints the words of each function's parameters and answer, as `tests/calls.py face` prints
+those of the stream.
 """
 import pathlib
 import re
@@ -70,10 +71,14 @@ def rattle_records():
     return [(name, rust_fields(text(path), rattle)) for path, rattle, name in RECORDS]
 
 
-def rattle():
+def rattle_functions():
     sources = "".join(text(p.relative_to(ROOT)) for p in sorted((ROOT / "crates/urtemval/src").glob("*.rt")))
     pattern = r'#\[no_mangle\] pub extern "C" fn (\w+)\((.*?)\) -> (\w+)'
-    return rust_functions(sources, pattern) + [record_line(n, f) for n, f in rattle_records()]
+    return rust_functions(sources, pattern)
+
+
+def rattle():
+    return rattle_functions() + [record_line(n, f) for n, f in rattle_records()]
 
 
 def rust():
@@ -133,8 +138,26 @@ def texts():
     return [f"text {number}: {words}" for number, words in rows if not words.startswith("scene: ")]
 
 
+def words():
+    """Each function by its parameters, a record's fields one by one, each with its words, and the words of its answer:
+    of its record's fields, and then of what it was lent to write.
+    """
+    records = {name: [(field, SIZES[kind] // 4) for field, kind in fields] for name, fields in rattle_records()}
+    lines = []
+    for line in rattle_functions():
+        name, parameters, answer = re.fullmatch(r"fn (\w+)\((.*)\) -> (\w+)", line).groups()
+        taken, given = [], [size for _, size in records[answer]]
+        for field, kind in (parameter.split(" ", 1) for parameter in parameters.split(", ")):
+            size = 12 if kind.endswith("Points") else 1
+            taken += records.get(kind, [(field, size)])
+            given += [size] if kind.startswith("&mut") else []
+        taken = ", ".join(f"{field} {size}" for field, size in taken)
+        lines.append(f"{name}({taken}) -> {' '.join(map(str, given))}")
+    return lines
+
+
 if __name__ == "__main__":
-    lists = {"rattle": rattle, "c": c, "rust": rust, "layout": layout, "texts": texts}
+    lists = {"rattle": rattle, "c": c, "rust": rust, "layout": layout, "texts": texts, "words": words}
     if len(sys.argv) != 2 or sys.argv[1] not in lists:
         sys.exit(__doc__)
     print("\n".join(lists[sys.argv[1]]()))

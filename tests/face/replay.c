@@ -2,21 +2,16 @@
  * Replays the calls of the frozen list (docs/TESTING.md, "The stream") through the archive, and holds each answer to
  * the one in the list, word by word. Fails where one differs, and where an exported function is not called at all.
  *   replay CALLS ANSWERS
- * It is compiled as C and as C++.
+ * It is compiled as C and as C++. calls.h, the sizes and places of the stream, is made by tests/calls.py.
  */
 #include <stdio.h>
 #include <stdlib.h>
 #include <string.h>
 #include <urtemval.h>
 
-enum { BLOCK = 65536, FUNCTIONS = 13 };
+#include "calls.h"
 
-/* By the function's number: how many words a call has after that number, and how many its answer has. */
-static const int call_words[FUNCTIONS] = {0, 1, 7, 25, 12, 13, 13, 13, 25, 3, 6, 24, 29};
-static const int answer_words[FUNCTIONS] = {0, 2, 4, 13, 13, 13, 6, 2, 26, 5, 5, 5, 5};
-static const char *const names[FUNCTIONS] = {
-    "", "square_root", "", "", "", "", "squared_distance", "max_relative_norm", "scale_pair", "quadratic_roots",
-    "cubic_roots", "coplanar_times", "safe_time"};
+enum { BLOCK = 65536 };
 
 static void fail(const char *message)
 {
@@ -38,7 +33,7 @@ static UrtemvalPoints points(const uint32_t *words)
     return x;
 }
 
-/* Makes the call, if the function is exported, and says so. The answer's records have the order of the stream's words. */
+/* Makes the call, if the function is exported, and says so. The records have the order of the stream's words. */
 static int answer(uint32_t function, const uint32_t *in, uint32_t *out)
 {
     UrtemvalPoints x, dx;
@@ -48,48 +43,51 @@ static int answer(uint32_t function, const uint32_t *in, uint32_t *out)
     UrtemvalDistance distance;
     UrtemvalSafeTime safe;
     switch (function) {
-    case 1:
-        value = urtemval_square_root(number(in[0]));
+    case SQUARE_ROOT:
+        value = urtemval_square_root(number(in[SQUARE_ROOT_X]));
         memcpy(out, &value, sizeof value);
         return 1;
-    case 6:
-        x = points(in);
-        distance = urtemval_squared_distance(&x, in[12]);
+    case SQUARED_DISTANCE:
+        x = points(in + SQUARED_DISTANCE_X);
+        distance = urtemval_squared_distance(&x, in[SQUARED_DISTANCE_SPLIT]);
         memcpy(out, &distance, sizeof distance);
         return 1;
-    case 7:
-        x = points(in);
-        value = urtemval_max_relative_norm(&x, in[12]);
+    case MAX_RELATIVE_NORM:
+        x = points(in + MAX_RELATIVE_NORM_X);
+        value = urtemval_max_relative_norm(&x, in[MAX_RELATIVE_NORM_SPLIT]);
         memcpy(out, &value, sizeof value);
         return 1;
-    case 8:
-        x = points(in);
-        dx = points(in + 12);
-        value = urtemval_scale_pair(&x, &dx, number(in[24]));
+    case SCALE_PAIR:
+        x = points(in + SCALE_PAIR_X);
+        dx = points(in + SCALE_PAIR_DX);
+        value = urtemval_scale_pair(&x, &dx, number(in[SCALE_PAIR_MAX_T]));
         memcpy(out, &value, sizeof value);
-        memcpy(out + 2, &x, sizeof x);
-        memcpy(out + 14, &dx, sizeof dx);
+        memcpy(out + SCALE_PAIR_ANSWER_X, &x, sizeof x);
+        memcpy(out + SCALE_PAIR_ANSWER_DX, &dx, sizeof dx);
         return 1;
-    case 9:
-        roots = urtemval_quadratic_roots(number(in[0]), number(in[1]), number(in[2]));
+    case QUADRATIC_ROOTS:
+        roots = urtemval_quadratic_roots(number(in[QUADRATIC_ROOTS_C0]), number(in[QUADRATIC_ROOTS_C1]),
+                                         number(in[QUADRATIC_ROOTS_C2]));
         memcpy(out, &roots, sizeof roots);
         return 1;
-    case 10:
-        roots = urtemval_cubic_roots(number(in[0]), number(in[1]), number(in[2]), number(in[3]), number(in[4]),
-                                     number(in[5]));
+    case CUBIC_ROOTS:
+        roots = urtemval_cubic_roots(number(in[CUBIC_ROOTS_C0]), number(in[CUBIC_ROOTS_C1]),
+                                     number(in[CUBIC_ROOTS_C2]), number(in[CUBIC_ROOTS_C3]),
+                                     number(in[CUBIC_ROOTS_T]), number(in[CUBIC_ROOTS_EPSILON]));
         memcpy(out, &roots, sizeof roots);
         return 1;
-    case 11:
-        x = points(in);
-        dx = points(in + 12);
+    case COPLANAR_TIMES:
+        x = points(in + COPLANAR_TIMES_X0);
+        dx = points(in + COPLANAR_TIMES_DX);
         roots = urtemval_coplanar_times(&x, &dx);
         memcpy(out, &roots, sizeof roots);
         return 1;
-    case 12:
-        x = points(in);
-        dx = points(in + 12);
-        memcpy(&limits, in + 25, sizeof limits);
-        safe = urtemval_safe_time(&x, &dx, in[24], limits);
+    case SAFE_TIME:
+        x = points(in + SAFE_TIME_X0);
+        dx = points(in + SAFE_TIME_DX);
+        /* the record's fields are the stream's, in their order */
+        memcpy(&limits, in + SAFE_TIME_OFFSET, sizeof limits);
+        safe = urtemval_safe_time(&x, &dx, in[SAFE_TIME_SPLIT], limits);
         memcpy(out, &safe, sizeof safe);
         return 1;
     default:
@@ -115,7 +113,7 @@ static void refused_bits_stay(void)
 int main(int count, char **words)
 {
     static uint32_t block[BLOCK / 4];
-    uint32_t got[26], want[26];
+    uint32_t got[MOST_ANSWER_WORDS], want[MOST_ANSWER_WORDS];
     long calls[FUNCTIONS] = {0};
     long all = 0;
     size_t size;
@@ -127,19 +125,19 @@ int main(int count, char **words)
         size_t at = 0;
         while (at < size && block[at] != 0) {
             uint32_t f = block[at];
-            if (f >= FUNCTIONS || at + 1 + (size_t)call_words[f] > size)
+            if (f >= FUNCTIONS || at + 1 + call_words[f] > size)
                 fail("the list of calls is damaged");
-            if (fread(want, 4, (size_t)answer_words[f], frozen) != (size_t)answer_words[f])
+            if (fread(want, 4, answer_words[f], frozen) != answer_words[f])
                 fail("the list of answers ends too early");
             if (answer(f, block + at + 1, got)) {
-                if (memcmp(got, want, 4 * (size_t)answer_words[f]) != 0) {
+                if (memcmp(got, want, 4 * answer_words[f]) != 0) {
                     fprintf(stderr, "replay: call %ld, of urtemval_%s, is answered otherwise\n", calls[f], names[f]);
                     return 1;
                 }
                 calls[f]++;
                 all++;
             }
-            at += 1 + (size_t)call_words[f];
+            at += 1 + call_words[f];
         }
     }
     if (fgetc(frozen) != EOF)
@@ -148,8 +146,10 @@ int main(int count, char **words)
     for (int f = 1; f < FUNCTIONS; f++) {
         if (names[f][0] == 0)
             continue;
-        if (calls[f] == 0)
-            fail("an exported function is not called");
+        if (calls[f] == 0) {
+            fprintf(stderr, "replay: urtemval_%s is not called\n", names[f]);
+            return 1;
+        }
         printf("%s%s %ld", f == 1 ? "" : ", ", names[f], calls[f]);
     }
     printf("; %ld calls, all answered as in the frozen list\n", all);

@@ -18,7 +18,7 @@ fn answer_block(block: &[u8], out: &mut [u8]) -> usize
 {
     let mut at = 0;
     let mut to = 0;
-    while at < 65536 {
+    while at < words::BLOCK {
         if block.len() <= at {
             return to;
         }

@@ -16,22 +16,26 @@ fn put_roots(out: &mut [u8], answer: Roots) {
 }
 
 pub(crate) fn quadratic_root(call: &[u8], out: &mut [u8]) {
-    let c = words::point(call, 4);
-    put_roots(out, polynomial_root::quadratic_root(c[0], c[1], c[2]));
+    let c0 = words::number(call, 4);
+    let c1 = words::number(call, 8);
+    let c2 = words::number(call, 12);
+    put_roots(out, polynomial_root::quadratic_root(c0, c1, c2));
 }
 
-pub(crate) fn cubic_roots(call: &[u8], out: &mut [u8]) {
-    let c = words::point(call, 4);
+pub(crate) fn cubic_roots_in_range_zero_to_t(call: &[u8], out: &mut [u8]) {
+    let c0 = words::number(call, 4);
+    let c1 = words::number(call, 8);
+    let c2 = words::number(call, 12);
     let c3 = words::number(call, 16);
     let t = words::number(call, 20);
     let epsilon = words::number(call, 24);
     put_roots(
         out,
-        polynomial_root::cubic_roots_in_range_zero_to_t(c[0], c[1], c[2], c3, t, epsilon),
+        polynomial_root::cubic_roots_in_range_zero_to_t(c0, c1, c2, c3, t, epsilon),
     );
 }
 
-pub(crate) fn coplanar_time(call: &[u8], out: &mut [u8]) {
+pub(crate) fn coplanar_time_mat3x4(call: &[u8], out: &mut [u8]) {
     put_roots(
         out,
         coplanar::coplanar_time_mat3x4(words::points(call, 4), words::points(call, 52)),

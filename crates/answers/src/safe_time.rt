@@ -25,7 +25,7 @@ fn put_refusal(out: &mut [u8], refusal: u32) {
     words::put(out, 4, 4);
 }
 
-pub(crate) fn maximum_safe_time(call: &[u8], out: &mut [u8]) {
+pub(crate) fn maximum_safe_time_accurate(call: &[u8], out: &mut [u8]) {
     let limits = Limits {
         offset: words::number(call, 104),
         clearance: words::number(call, 108),

@@ -3,7 +3,7 @@ use crate::words;
 use motion::record;
 use motion::scaling;
 
-pub(crate) fn normalize(call: &[u8], out: &mut [u8]) {
+pub(crate) fn normalize_centerized_configuration(call: &[u8], out: &mut [u8]) {
     let scaled = scaling::after_scaling(
         record::pair_of(words::points(call, 4), words::points(call, 52)),
         words::number(call, 100),

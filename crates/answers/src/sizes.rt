@@ -1,5 +1,5 @@
-// How many bytes a call and its answer take, by the number of the function (docs/TESTING.md, "The stream"). A call has
-// the word of that number before its arguments.
+// How many bytes a call and its answer take, by the number of the function. A call has the word of that number before
+// its arguments. Made of tests/calls.txt by tests/calls_written.py.
 ghost use Prim.Native.Nat.{_<_, _≤_};
 
 pub(crate) fn of_call(function: u32) -> usize

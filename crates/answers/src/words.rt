@@ -2,6 +2,9 @@
 // run is read as 0, and is not written.
 use number::answer::Answered;
 
+// How many bytes a block of calls has, and its answers at most. No place of a field is beyond.
+pub(crate) const BLOCK: usize = 65536;
+
 fn wide(b: u8) -> u32 {
     b as u32
 }
@@ -25,7 +28,7 @@ fn put_byte(s: &mut [u8], at: usize, w: u32) {
 
 // Writes a word at byte `at`.
 pub(crate) fn put(s: &mut [u8], at: usize, w: u32) {
-    if at < 65536 {
+    if at < BLOCK {
         put_byte(s, at, w);
         put_byte(s, at + 1, w >> 8);
         put_byte(s, at + 2, w >> 16);
@@ -73,7 +76,7 @@ pub(crate) fn split(s: &[u8], at: usize) -> usize {
 
 // Three numbers from byte `at` on.
 pub(crate) fn point(s: &[u8], at: usize) -> [f32; 3] {
-    if at < 65536 {
+    if at < BLOCK {
         [number(s, at), number(s, at + 4), number(s, at + 8)]
     } else {
         [0.0, 0.0, 0.0]
@@ -81,7 +84,7 @@ pub(crate) fn point(s: &[u8], at: usize) -> [f32; 3] {
 }
 
 pub(crate) fn put_point(s: &mut [u8], at: usize, p: [f32; 3]) {
-    if at < 65536 {
+    if at < BLOCK {
         put_number(s, at, p[0]);
         put_number(s, at + 4, p[1]);
         put_number(s, at + 8, p[2]);
@@ -90,7 +93,7 @@ pub(crate) fn put_point(s: &mut [u8], at: usize, p: [f32; 3]) {
 
 // Four points from byte `at` on.
 pub(crate) fn points(s: &[u8], at: usize) -> [[f32; 3]; 4] {
-    if at < 65536 {
+    if at < BLOCK {
         [
             point(s, at),
             point(s, at + 12),
@@ -108,7 +111,7 @@ pub(crate) fn points(s: &[u8], at: usize) -> [[f32; 3]; 4] {
 }
 
 pub(crate) fn put_points(s: &mut [u8], at: usize, x: [[f32; 3]; 4]) {
-    if at < 65536 {
+    if at < BLOCK {
         let a = x[0];
         let b = x[1];
         let c = x[2];

@@ -6,6 +6,13 @@ mod text;
 
 use admission::Limits;
 
+// The bound on coordinates, 2^20, and the next number above it.
+const BOUND: f32 = 1048576.0;
+
+const ABOVE_BOUND: f32 = 1048576.125;
+// The next number above 1.
+const ABOVE_ONE: f32 = 1.0000001;
+
 // Four points with one number, and four of many.
 fn lone(a: f32) -> [[f32; 3]; 4] {
     [
@@ -44,14 +51,14 @@ fn scaling() {
     cases::scaled(b"moving", lone(0.001), many(), 1.0);
     cases::scaled(b"43 times", lone(1.0e-38), lone(-3.0e-39), 0.0);
     cases::scaled(b"no factor", lone(1.0e-45), zero, 1.0);
-    cases::scaled(b"too large", lone(1.0e-37), lone(1048576.0), 0.0);
-    cases::scaled(b"largest", lone(-1048576.0), many(), 1.0);
-    cases::scaled(b"above the largest", lone(1048576.125), many(), 1.0);
+    cases::scaled(b"too large", lone(1.0e-37), lone(BOUND), 0.0);
+    cases::scaled(b"largest", lone(-BOUND), many(), 1.0);
+    cases::scaled(b"above the largest", lone(ABOVE_BOUND), many(), 1.0);
     cases::scaled(b"nan", lone(nan()), many(), 1.0);
     cases::scaled(b"infinity", many(), lone(infinity()), 1.0);
     cases::scaled(b"time minus zero", many(), many(), -0.0);
-    cases::scaled(b"time above one", many(), many(), 1.0000001);
-    cases::scaled(b"nan, time above one", lone(nan()), many(), 1.0000001);
+    cases::scaled(b"time above one", many(), many(), ABOVE_ONE);
+    cases::scaled(b"nan, time above one", lone(nan()), many(), ABOVE_ONE);
 }
 
 fn measures() {
@@ -59,8 +66,8 @@ fn measures() {
     cases::measured(b"face", many(), 3);
     cases::measured(b"split 4", many(), 4);
     cases::measured(b"split 1, nan", lone(nan()), 1);
-    cases::measured(b"edges, above the largest", lone(-1048576.125), 2);
-    cases::measured(b"face, largest", lone(1048576.0), 3);
+    cases::measured(b"edges, above the largest", lone(-ABOVE_BOUND), 2);
+    cases::measured(b"face, largest", lone(BOUND), 3);
     cases::measured(b"face, smallest", lone(1.0e-45), 3);
 }
 
@@ -70,7 +77,7 @@ fn calls() {
         b"place, ratio above one",
         [1.0, 2.0, 3.0],
         [-2.0, 4.0, 3.0],
-        1.0000001,
+        ABOVE_ONE,
     );
     cases::placed(
         b"place, infinity",
@@ -88,9 +95,9 @@ fn calls() {
     );
     cases::moved(b"moved, nan", many(), lone(nan()), 0.75, lone(7.0));
     cases::centred(b"centred", many());
-    cases::centred(b"centred, above the largest", lone(1048576.125));
+    cases::centred(b"centred, above the largest", lone(ABOVE_BOUND));
     cases::centred(b"centred, infinity", lone(infinity()));
-    cases::times(b"times", many(), 1048576.0);
+    cases::times(b"times", many(), BOUND);
     cases::times(b"times, factor below zero", many(), -1.0);
     cases::times(b"times, nan", many(), nan());
 }
@@ -107,7 +114,7 @@ fn limits(max_t: f32, u_max: f32) -> Limits {
 
 fn admissions() {
     cases::admitted(b"max_t 1", many(), 2, limits(1.0, 1.0));
-    cases::admitted(b"max_t above 1", many(), 2, limits(1.0000001, 1.0));
+    cases::admitted(b"max_t above 1", many(), 2, limits(ABOVE_ONE, 1.0));
     cases::admitted(
         b"u_max 2^-60",
         many(),

@@ -1,33 +1,14 @@
 // What the test writes: words, and numbers as the eight hex digits of their bits.
 use libc::STDOUT_FILENO;
 
-// The hex digit of a number's last four bits.
-fn digit(n: u32) -> u8 {
-    let d = n % 16;
-    if d < 10 {
-        48 + (d as u8)
-    } else {
-        87 + (d as u8)
-    }
-}
-
 pub(crate) fn text(s: &[u8]) {
     io::write_all(STDOUT_FILENO, s);
 }
 
+// A space and eight hex digits.
 pub(crate) fn word(n: u32) {
-    let digits = [
-        32,
-        digit(n >> 28),
-        digit(n >> 24),
-        digit(n >> 20),
-        digit(n >> 16),
-        digit(n >> 12),
-        digit(n >> 8),
-        digit(n >> 4),
-        digit(n),
-    ];
-    text(&digits);
+    text(b" ");
+    io::print_hex(STDOUT_FILENO, n as u64, 8);
 }
 
 // A NaN has no bits that can be read here.

@@ -1,6 +1,8 @@
 //! A repeatable source of numbers, and the kinds of f32 that find faults. Only whole-number work, exact operations and
 //! single roundings, so that every machine makes the same calls from one seed.
 
+use crate::model::BOUND;
+
 pub struct Source {
     state: u64,
 }
@@ -70,7 +72,7 @@ impl Source {
         let sign = self.sign();
         match self.below(16) {
             0 => sign * 0.0,
-            1 => sign * self.pick(&[1.0, 2.0, 0.5, 1_048_576.0, f32::MIN_POSITIVE, 1.0e-45]),
+            1 => sign * self.pick(&[1.0, 2.0, 0.5, BOUND, f32::MIN_POSITIVE, 1.0e-45]),
             _ => sign * self.sized(-149, 19),
         }
     }

@@ -1,7 +1,7 @@
 //! Pairs in motion: ordinary ones, and the families that find faults.
 
 use super::numbers::Source;
-use crate::model::{Point, Points};
+use crate::model::{Point, Points, BOUND};
 
 /// Four points and their displacements.
 #[derive(Clone, Copy)]
@@ -180,7 +180,7 @@ impl Source {
     /// Numbers up to 2^20.
     fn huge(&mut self) -> Motion {
         let speed = self.pick(&[1.0, 0.01, 0.000_01]);
-        let number = |s: &mut Source| s.signed() * 1_048_576.0;
+        let number = |s: &mut Source| s.signed() * BOUND;
         Motion { x: self.points(number), dx: self.points(|s| number(s) * speed) }
     }
 
@@ -222,6 +222,6 @@ fn scaled(a: Point, s: f32) -> Point {
 /// Holds each number to 2^20 in size.
 fn held(x: &mut Points) {
     for n in x.iter_mut().flatten() {
-        *n = n.max(-1_048_576.0).min(1_048_576.0);
+        *n = n.max(-BOUND).min(BOUND);
     }
 }

@@ -2,8 +2,8 @@
 
 use super::numbers::{neighbour, Source};
 use super::rare;
-use crate::calls::Words;
-use crate::model::Coefficients;
+use crate::model::{Coefficients, BOUND};
+use crate::words::Words;
 
 /// 2^-23, below which a coefficient counts as missing.
 const MISSING: f32 = 1.0 / 8_388_608.0;
@@ -27,7 +27,7 @@ impl Source {
             5 => self.turning(t),
             6 => [(); 4].map(|()| self.whole(4)),
             7 => self.short(),
-            8 => [(); 4].map(|()| self.signed() * 1_048_576.0),
+            8 => [(); 4].map(|()| self.signed() * BOUND),
             9 => self.faint(),
             10 => self.even(t),
             _ => self.low_degree(),
@@ -37,7 +37,7 @@ impl Source {
             c[place] = self.pick(&[0.0, -0.0, 1.0e-45, -1.0e-45, MISSING, -MISSING]);
         }
         for n in &mut c {
-            *n = n.max(-1_048_576.0).min(1_048_576.0);
+            *n = n.max(-BOUND).min(BOUND);
         }
         Polynomial { c, t, epsilon: self.epsilon() }
     }
@@ -58,7 +58,7 @@ impl Source {
             0 => 1.0 / 1_048_576.0,
             1 => 1.0e-8,
             2 => self.sized(-40, 0),
-            3 => self.pick(&[1.0e-45, -0.0, 1.0, 1_048_576.0]),
+            3 => self.pick(&[1.0e-45, -0.0, 1.0, BOUND]),
             _ => 0.0,
         }
     }

@@ -1,13 +1,15 @@
 //! Inputs found once that meet branches which random ones hardly ever meet, each as the words of its arguments.
 
-use crate::calls::{Call, Function, Words};
+use crate::calls::Call;
+use crate::functions::Function;
+use crate::words::Words;
 
 /// All of them as calls.
 pub fn calls() -> impl Iterator<Item = Call> {
     let of = |function: Function| move |words: &&str| Call::new(function, Words::from_hex(words));
-    let polynomials = POLYNOMIALS.iter().map(of(Function::CubicRoots));
-    let motions = MOTIONS.iter().map(of(Function::CoplanarTime));
-    polynomials.chain(motions).chain(SAFE_TIMES.iter().map(of(Function::SafeTime)))
+    let polynomials = POLYNOMIALS.iter().map(of(Function::CubicRootsInRangeZeroToT));
+    let motions = MOTIONS.iter().map(of(Function::CoplanarTimeMat3x4));
+    polynomials.chain(motions).chain(SAFE_TIMES.iter().map(of(Function::MaximumSafeTimeAccurate)))
 }
 
 /// c0, c1, c2, c3, t and epsilon.

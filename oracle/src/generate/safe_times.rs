@@ -3,13 +3,11 @@
 
 use super::numbers::{neighbour, Source};
 use super::rare;
-use crate::calls::Words;
-use crate::model::{Limits, Points, Rules};
+use crate::model::{Limits, Points, Rules, BOUND, FASTEST};
+use crate::words::Words;
 
-/// 2^-60, the least u_max.
-const SLOWEST: f32 = 1.0 / 1_152_921_504_606_846_976.0;
-/// 2^20.
-const LIMIT: f32 = 1_048_576.0;
+/// The least u_max, 2^-60.
+const SLOWEST: f32 = 1.0 / FASTEST;
 
 impl Source {
     pub fn safe_time(&mut self, split: u32) -> Words {
@@ -26,13 +24,13 @@ impl Source {
 
     /// Offset, clearance, time limit and u_max.
     fn limits(&mut self, x: &Points, dx: &Points, split: u32) -> Limits {
-        let distance = Rules::DOCUMENT.distance(x, split).squared.sqrt().min(LIMIT);
+        let distance = Rules::DOCUMENT.distance(x, split).squared.sqrt().min(BOUND);
         let offset = match self.below(24) {
             0 => distance * self.unit(),
             1 => self.near(distance, 2).max(0.0),
             2 => self.length(),
             3 => distance * self.pick(&[0.5, 0.25, 0.9]),
-            4 => self.pick(&[-0.0, 1.0e-45, 1.0e-20, LIMIT]),
+            4 => self.pick(&[-0.0, 1.0e-45, 1.0e-20, BOUND]),
             5..=12 => distance * self.sized(-12, -3),
             _ => 0.0,
         };
@@ -42,13 +40,13 @@ impl Source {
             1 => rest,
             2 => self.length(),
             3 => distance * self.unit(),
-            4 => self.pick(&[-0.0, 1.0e-45, 1.0e-20, LIMIT]),
+            4 => self.pick(&[-0.0, 1.0e-45, 1.0e-20, BOUND]),
             5 => distance * self.sized(-40, -12),
             6 => 0.0,
             _ => distance * self.sized(-12, -3),
         };
         let max_t = self.time();
-        Limits { offset: offset.min(LIMIT), clearance: clearance.min(LIMIT), max_t, u_max: self.speed(dx, split) }
+        Limits { offset: offset.min(BOUND), clearance: clearance.min(BOUND), max_t, u_max: self.speed(dx, split) }
     }
 
     /// u_max for displacements: mostly their norm.
@@ -56,13 +54,13 @@ impl Source {
         let norm = Rules::DOCUMENT.norm(dx, split);
         let speed = match self.below(192) {
             0 | 1 => SLOWEST,
-            2 => 1.0 / SLOWEST,
+            2 => FASTEST,
             3..=12 => self.near(norm, 2),
             13..=20 => norm * self.pick(&[0.5, 2.0, 100.0, 1.0e6]),
             21 => self.sized(-60, 59),
             _ => norm,
         };
-        speed.max(SLOWEST).min(1.0 / SLOWEST)
+        speed.max(SLOWEST).min(FASTEST)
     }
 
     /// Edges at a right angle whose interior places appear at a tiny time, with park between the two distances: a

@@ -1,12 +1,7 @@
 //! The numbers allowed (docs/01-scope.md, "What callers hand over"): refusal 1 where some number is NaN or infinite,
 //! else refusal 2 where one is beyond its range or the split is another number.
 
-use super::{Points, Refusal};
-
-/// 2^20.
-const LIMIT: f32 = 1_048_576.0;
-/// 2^60.
-const FASTEST: f32 = 1_152_921_504_606_846_976.0;
+use super::{Points, Refusal, BOUND, FASTEST};
 
 #[derive(Clone, Copy)]
 pub struct Admission {
@@ -27,7 +22,7 @@ impl Admission {
 
     /// Coordinates, displacements, coefficients.
     pub fn sized(self, numbers: &[f32]) -> Self {
-        numbers.iter().fold(self, |so_far, &x| so_far.number(x, -LIMIT, LIMIT))
+        numbers.iter().fold(self, |so_far, &x| so_far.number(x, -BOUND, BOUND))
     }
 
     pub fn points(self, x: &Points) -> Self {
@@ -36,7 +31,7 @@ impl Admission {
 
     /// Offset, clearance, epsilon, a scale factor.
     pub fn length(self, x: f32) -> Self {
-        self.number(x, 0.0, LIMIT)
+        self.number(x, 0.0, BOUND)
     }
 
     /// A time limit, a moved point's time, a ratio.

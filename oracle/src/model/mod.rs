@@ -15,6 +15,11 @@ pub use distance::Distance;
 pub use roots::{Coefficients, Roots};
 pub use walk::{Kind, Limits};
 
+/// The bound on coordinates, displacements, coefficients and lengths, 2^20.
+pub const BOUND: f32 = 1_048_576.0;
+/// The greatest u_max, 2^60; the least is its inverse.
+pub const FASTEST: f32 = 1_152_921_504_606_846_976.0;
+
 /// Why nothing is answered: a number of the rules' table.
 pub type Refusal = u32;
 

@@ -4,14 +4,10 @@ use Rattle.number.proofs.NoNan.{no-nan-ne}
 use Rattle.answers.proofs.words.bits_of.Statement.{statement}
 use Rattle.answers.proofs.words.bits_of.Tie as tie
 
-returns : tie.Need-returns
-returns c = search needs
-
 float-to-bits-result : tie.Need-float-to-bits-result
 float-to-bits-result c = no-nan-ne (c .before .args .x) (c .if1 .left)
 
-returns-2 : tie.Need-returns-2
-returns-2 c = search needs
-
 pub bits-of-spec : {M : Type 1} → statement M
-bits-of-spec = tie.close (tie.spec returns float-to-bits-result returns-2)
+bits-of-spec =
+    tie.close
+    (tie.spec (λ c. search needs) float-to-bits-result (λ c. search needs))

@@ -4,31 +4,11 @@ use Rattle.number.proofs.NoNan.{no-nan-ne}
 use Rattle.pair_test.proofs.text.number.Statement.{statement}
 use Rattle.pair_test.proofs.text.number.Tie as tie
 
-slice-aggregate-text : tie.Need-slice-aggregate-text
-slice-aggregate-text c = search needs
-
-text-requires : tie.Need-text-requires
-text-requires c κs = search needs
-
 float-to-bits-word : tie.Need-float-to-bits-word
 float-to-bits-word c = no-nan-ne _ (c .if1 .left)
-
-word-requires : tie.Need-word-requires
-word-requires c κs = search needs
-
-returns : tie.Need-returns
-returns c = search needs
-
-returns-2 : tie.Need-returns-2
-returns-2 c = search needs
 
 pub number-spec : {M : Type 1} → statement M
 number-spec =
     tie.close
-    (tie.spec
-    slice-aggregate-text
-    text-requires
-    float-to-bits-word
-    word-requires
-    returns
-    returns-2)
+    (tie.spec (λ c. search needs) (λ c κs. search needs) float-to-bits-word (λ c κs. search needs)
+    (λ c. search needs) (λ c. search needs))
