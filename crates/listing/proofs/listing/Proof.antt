@@ -5,7 +5,7 @@ use mathlib.Core.List.{List}
 use borrow.Author.Needs.{needs}
 use Rattle.scene.specs.declared.layout.Scene.{Scene}
 use Rattle.scene.specs.Scene.{sceneOf}
-use Rattle.scene.proofs.Scenes.{few-pairs}
+use Rattle.scene.proofs.Spelling.{few-pairs}
 use Rattle.text.specs.Text.{codes}
 use Rattle.text.proofs.Puts.{as-text, whole-text}
 use Rattle.listing.specs.Listing.{counted, listed, listing}

@@ -8,7 +8,7 @@ use mathlib.Core.List.{List, _++_}
 use borrow.Author.Needs.{needs}
 use Rattle.text.specs.Text.{Put}
 use Rattle.text.proofs.Puts.{and-then, as-text, keeps-length, nothing}
-use Rattle.scene.specs.Scene.{timeOf}
+use Rattle.scene.specs.Scene.{safeTimeAt}
 use Rattle.listing.specs.Listing.{line, lines, listed}
 use Rattle.listing.proofs.put_pairs.Statement.{statement}
 use Rattle.listing.proofs.put_pairs.Tie as tie
@@ -19,7 +19,7 @@ Inv-loop s pairs out₀ at₀ i₀ out at i = (i ≤ pairs) × (at ≤ at₀ + 5
 abbrev μ-loop : tie.MeasureT-loop
 μ-loop s pairs out₀ at₀ i₀ out at i = pairs - i
 
-one-more : (s : List ℕ) (i : ℕ) → lines s i ++ line i (timeOf s i) ≡ lines s (i + 1)
+one-more : (s : List ℕ) (i : ℕ) → lines s i ++ line i (safeTimeAt s i) ≡ lines s (i + 1)
 unfolding lines
 one-more s i = rw add-one
 
