@@ -19,11 +19,13 @@ use Rattle.scene.proofs.FourBytes.{Bytes, word-spelled, spell-dropped}
 -- from place i on each count stands where it must, and the file ends after the last entry
 abbrev Fits : List ℕ → ℕ → List (ℕ × ℕ) → Type 0
 Fits s i [] = length s ≡ i
-Fits s i (e ∷ others) = (word s i ≡ e .1) × Fits s (i + 4 + e .0 * e .1) others
+Fits s i ((size, count) ∷ others) = (word s i ≡ count) × Fits s (i + 4 + size * count) others
 
 fits-within : (s : List ℕ) (i : ℕ) (t : List (ℕ × ℕ)) → Fits s i t → i ≤ length s
 fits-within s i [] f = omega arith
-fits-within s i (e ∷ others) f = let within = fits-within s (i + 4 + e .0 * e .1) others (f .1) in omega arith
+fits-within s i ((size, count) ∷ others) f =
+    let within = fits-within s (i + 4 + size * count) others (f .1) in
+    omega arith
 
 -- k bytes from place i on, and the rest
 cut : (s : List ℕ) (i k : ℕ) → drop i s ≡ take k (drop i s) ++ drop (i + k) s
@@ -35,13 +37,13 @@ cut-length s i k h = length-take-le k (drop i s) (rw length-drop (omega arith))
 -- what fits is put together so
 joined-of : (s : List ℕ) → Bytes s → (i : ℕ) (t : List (ℕ × ℕ)) → Fits s i t → Joined (drop i s) t
 joined-of s b i [] f = drop-of-length-le s {i = i} (omega arith)
-joined-of s b i (e ∷ others) f =
-    let k = e .0 * e .1 in
+joined-of s b i ((size, count) ∷ others) f =
+    let k = size * count in
     let within : i + 4 + k ≤ length s = fits-within s (i + 4 + k) others (f .1) in
     let bytes =
     spell-dropped s b i (omega arith)
     ∙ ap (λ (w : ℕ). spell w ++ drop (i + 4) s) (f .0)
-    ∙ ap (λ (l : List ℕ). spell (e .1) ++ l) (cut s (i + 4) k) in (
+    ∙ ap (λ (l : List ℕ). spell count ++ l) (cut s (i + 4) k) in (
       take k (drop (i + 4) s),
       drop (i + 4 + k) s,
       bytes,
@@ -52,7 +54,7 @@ joined-of s b i (e ∷ others) f =
 -- each count fits a word
 abbrev Words : List (ℕ × ℕ) → Type 0
 Words [] = Unit
-Words (e ∷ others) = (e .1 < 4294967296) × Words others
+Words ((size, count) ∷ others) = (count < 4294967296) × Words others
 
 spell-length : (k : ℕ) → length (spell k) ≡ 4
 unfolding spell
@@ -61,17 +63,17 @@ spell-length k = refl
 -- what is put together so fits, after any bytes
 fits-of : (a s : List ℕ) (t : List (ℕ × ℕ)) → Words t → Joined s t → Fits (a ++ s) (length a) t
 fits-of a s [] w j = rw (j, append-nil)
-fits-of a s (e ∷ others) w (entries, rest, bytes, size, more) = (
-  rw bytes (word-spelled a (entries ++ rest) (e .1) (length a) (w .0) refl),
+fits-of a s ((size, count) ∷ others) w (entries, rest, bytes, long, more) = (
+  rw bytes (word-spelled a (entries ++ rest) count (length a) (w .0) refl),
   subst (λ (i : ℕ). Fits (a ++ s) i others) place
       (subst (λ (l : List ℕ). Fits l (length front) others) whole (fits-of front rest others (w .1) more)),
 )
   where
     front : List ℕ
-    front = (a ++ spell (e .1)) ++ entries
+    front = (a ++ spell count) ++ entries
 
-    place : length front ≡ length a + 4 + e .0 * e .1
-    place = simp (length-append, spell-length) (rw size)
+    place : length front ≡ length a + 4 + size * count
+    place = simp (length-append, spell-length) (rw long)
 
     whole : front ++ rest ≡ a ++ s
     whole = simp append-assoc (rw bytes)

@@ -11,7 +11,7 @@ use Rattle.scene.specs.Scene.{arePairs, refused}
 unfoldable pub spell : ℕ → List ℕ
 spell n = (n % 256) ∷ (n / 256 % 256) ∷ (n / 65536 % 256) ∷ (n / 16777216 % 256) ∷ []
 
--- The sections of a scene of n points and m pairs, points, displacements, pairs and limits: how many bytes an entry has,
+-- The sections of a scene of n points and m pairs (points, displacements, pairs, limits): how many bytes an entry has,
 -- and how many entries there are.
 abbrev pub sections : ℕ → ℕ → List (ℕ × ℕ)
 sections n m = (12, n) ∷ (12, n) ∷ (20, m) ∷ (12, 1) ∷ []
@@ -19,9 +19,9 @@ sections n m = (12, n) ∷ (12, n) ∷ (20, m) ∷ (12, 1) ∷ []
 -- the bytes are these sections, one after the other: each is its count, and then its entries
 abbrev pub Joined : List ℕ → List (ℕ × ℕ) → Type 0
 Joined file [] = file ≡ []
-Joined file (e ∷ others) =
-    (entries : List ℕ) × (rest : List ℕ) × (file ≡ spell (e .1) ++ (entries ++ rest))
-    × (length entries ≡ e .0 * e .1) × Joined rest others
+Joined file ((size, count) ∷ others) =
+    (entries : List ℕ) × (rest : List ℕ) × (file ≡ spell count ++ (entries ++ rest))
+    × (length entries ≡ size * count) × Joined rest others
 
 -- The file is laid out as a scene of n points and m pairs. Of bytes that have come so far, that they can still become
 -- such a file is `(rest : List ℕ) × Spelled (soFar ++ rest) n m`.

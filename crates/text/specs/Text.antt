@@ -1,5 +1,5 @@
--- Text as the list of its bytes, in ASCII: a text between quotes, a number in decimal and in hexadecimal (the digits are
--- the toolchain's), and what it means that a text is put into a buffer. Definitions only.
+-- Text as the list of its bytes, in ASCII: a text between quotes, a number in decimal and in hexadecimal, whose digits
+-- are the toolchain's, and what it means that a text is put into a buffer. Definitions only.
 use Prim.Native.Nat.{ℕ, zero, suc, _+_, _^_}
 use Prim.Native.Char.{code}
 use Prim.Native.String.{String, [], _∷_}
