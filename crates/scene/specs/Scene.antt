@@ -81,7 +81,7 @@ sceneOf s =
 
 -- ---- a pair and its safe time
 -- the point whose number stands at place p, out of the points that begin at place b
-abbrev pub chosen : List ℕ → ℕ → ℕ → List Float
+unfoldable pub chosen : List ℕ → ℕ → ℕ → List Float
 chosen s b p = point s (b + 12 * word s p)
 
 -- the four points whose numbers pair i has
@@ -91,7 +91,7 @@ gathered s b i =
     chosen s b (p + 4) ∷ chosen s b (p + 8) ∷ chosen s b (p + 12) ∷ chosen s b (p + 16) ∷ []
 
 -- offset, clearance and time limit, for k from 1 to 3
-abbrev pub limitOf : List ℕ → ℕ → Float
+unfoldable pub limitOf : List ℕ → ℕ → Float
 limitOf s k = number s (limitsAt s + 4 * k)
 
 module _ (s : List ℕ) (i : ℕ) where
@@ -102,7 +102,7 @@ module _ (s : List ℕ) (i : ℕ) where
   abbrev pub displacementsOf : List (List Float)
   displacementsOf = gathered s (displacementsAt (pointCount s) + 4) i
 
-  abbrev pub splitOf : ℕ
+  unfoldable pub splitOf : ℕ
   splitOf = word s (pairAt (pointCount s) i)
 
   -- its safe time, and what that promises
