@@ -6,7 +6,7 @@ ghost use mathlib.Core.Path.{_≡_};
 ghost use mathlib.Core.List.{_++_};
 ghost use Prim.Native.Nat.{_≤_, _+_};
 ghost use lib.ListN.{length, drop};
-ghost use Rattle.text.specs.Text.{Put, codes};
+ghost use Rattle.text.specs.Text.{Put};
 ghost use Rattle.listing.specs.Listing as Def;
 use crate::line::put_line;
 use scene::layout;

@@ -1,6 +1,5 @@
 // Text in a lent buffer. Each function writes at place `at` and answers the place after what it wrote; what lies past
 // the buffer's end is counted and not written.
-ghost use mathlib.Core.Path.{_≡_};
 ghost use mathlib.Core.List.{[], _∷_};
 ghost use Prim.Native.Nat.{_<_, _≤_, _+_};
 ghost use lib.ListN.{length};

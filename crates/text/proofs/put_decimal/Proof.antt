@@ -1,6 +1,6 @@
 -- `text::put_decimal` meets its contract: the toolchain's digits are as many as the definition has. Assumes nothing.
 use Prim.Native.Nat.{ℕ, _≤_}
-use mathlib.Core.Path.{_≡_, ap, _∙_}
+use mathlib.Core.Path.{ap, _∙_}
 use borrow.Author.Needs.{needs}
 use Rattle.io.specs.Digits.{digits}
 use Rattle.text.specs.Text.{decimal}
