@@ -1,17 +1,15 @@
 // The line of a pair in the listing (docs/01-scope.md, "The listing").
 ghost use mathlib.Core.Path.{_≡_};
-ghost use mathlib.Core.List.{_++_};
 ghost use Prim.Native.Nat.{_<_, _≤_, _+_};
 ghost use lib.ListN.{length};
 ghost use lib.Ieee.{binary32, toBits};
-ghost use Rattle.listing.specs.Text.{Put};
-ghost use Rattle.listing.specs.Text as Def;
-use crate::text::put;
-use crate::text::put_decimal;
-use crate::text::put_hex;
-use crate::text::put_text;
+ghost use Rattle.text.specs.Text.{Put, hex};
+ghost use Rattle.listing.specs.Listing as Def;
 use ccd3::Answer;
 use ccd3::SafeTime;
+use text::put_bytes;
+use text::put_decimal;
+use text::put_hex;
 
 // The bits of a time. No time is NaN; the bits of one would be these.
 fn bits_of(t: f32) -> u32
@@ -23,41 +21,47 @@ fn bits_of(t: f32) -> u32
     f32::to_bits(t)
 }
 
-// What follows the kind: the time's bits and the two counts.
-fn put_time(out: &mut [u8], at: usize, t: f32, probes: u32, halvings: u32) -> usize
-    requires { ⌜ at < 0x4000_0000 ⌝ }
-    ensures { λ r. ⌜ Put (now (out .entry)) at (Def.timeText t probes halvings) (now (out .exit)) r × (r ≤ at + 30) ⌝ }
+fn put_bits(out: &mut [u8], at: usize, t: f32) -> usize
+    requires { ⌜ at < 0x1_0000_0000 ⌝ }
+    ensures { λ r. ⌜ Put (now (out .entry)) at (hex (toBits binary32 t)) (now (out .exit)) r × (r ≤ at + 8) ⌝ }
 {
-    let a = put_hex(out, at, bits_of(t));
-    let b = put(out, a, b' ');
-    let c = put_decimal(out, b, probes);
-    let d = put(out, c, b' ');
-    put_decimal(out, d, halvings)
+    put_hex(out, at, bits_of(t))
 }
 
-// The word of a kind and what follows it.
-fn put_timed(out: &mut [u8], at: usize, kind: &[u8], t: f32, probes: u32, halvings: u32) -> usize
-    requires { ⌜ (at < 0x800_0000) × (length (now kind) ≤ 10) ⌝ }
-    ensures { λ r. ⌜ Put (now (out .entry)) at (now (kind .entry) ++ Def.timeText t probes halvings)
-        (now (out .exit)) r × (r ≤ at + 40) ⌝ }
+fn put_spaced(out: &mut [u8], at: usize, n: u32) -> usize
+    requires { ⌜ at < 0x8000_0000 ⌝ }
+    ensures { λ r. ⌜ Put (now (out .entry)) at (Def.spaced n) (now (out .exit)) r × (r ≤ at + 11) ⌝ }
 {
-    let a = put_text(out, at, kind);
-    put_time(out, a, t, probes, halvings)
+    let a = put_bytes(out, at, b" ");
+    put_decimal(out, a, n)
 }
 
-// The answer: a time of its kind, or a refusal.
-fn put_answer(out: &mut [u8], at: usize, answer: Answer, probes: u32, halvings: u32) -> usize
-    requires { ⌜ at < 0x800_0000 ⌝ }
-    ensures { λ r. ⌜ Put (now (out .entry)) at (Def.answerText answer probes halvings)
-        (now (out .exit)) r × (r ≤ at + 40) ⌝ }
+// The word of a kind, the time's bits and the two counts.
+fn put_timed(out: &mut [u8], at: usize, kind: &[u8], t: f32, safe: SafeTime) -> usize
+    requires { ⌜ (at < 0x7fff_0000) × (length (now kind) ≤ 10) ⌝ }
+    ensures { λ r. ⌜ Put (now (out .entry)) at (Def.timed (now (kind .entry)) t safe) (now (out .exit)) r
+        × (r ≤ at + 40) ⌝ }
 {
+    let a = put_bytes(out, at, kind);
+    let b = put_bits(out, a, t);
+    let c = put_spaced(out, b, safe.probes);
+    put_spaced(out, c, safe.halvings)
+}
+
+// How a pair ends: a time of its kind, or a refusal.
+fn put_ending(out: &mut [u8], at: usize, safe: SafeTime) -> usize
+    requires { ⌜ at < 0x7fff_0000 ⌝ }
+    ensures { λ r. ⌜ Put (now (out .entry)) at (Def.ending (safe .answer) safe) (now (out .exit)) r
+        × (r ≤ at + 40) ⌝ }
+{
+    let answer = safe.answer;
     match answer {
-        Answer::Touching(t) => put_timed(out, at, b" touching ", t, probes, halvings),
-        Answer::Contact(t) => put_timed(out, at, b" contact ", t, probes, halvings),
-        Answer::Clear(t) => put_timed(out, at, b" clear ", t, probes, halvings),
-        Answer::Budget(t) => put_timed(out, at, b" budget ", t, probes, halvings),
+        Answer::Touching(t) => put_timed(out, at, b" touching ", t, safe),
+        Answer::Contact(t) => put_timed(out, at, b" contact ", t, safe),
+        Answer::Clear(t) => put_timed(out, at, b" clear ", t, safe),
+        Answer::Budget(t) => put_timed(out, at, b" budget ", t, safe),
         Answer::Refused(n) => {
-            let a = put_text(out, at, b" refused ");
+            let a = put_bytes(out, at, b" refused ");
             put_decimal(out, a, n)
         }
     }
@@ -65,11 +69,10 @@ fn put_answer(out: &mut [u8], at: usize, answer: Answer, probes: u32, halvings: 
 
 // The line of pair `index`, whose safe time this is.
 pub(crate) fn put_line(out: &mut [u8], at: usize, index: u32, safe: SafeTime) -> usize
-    requires { ⌜ at < 0x400_0000 ⌝ }
+    requires { ⌜ at < 0x4000_0000 ⌝ }
     ensures { λ r. ⌜ Put (now (out .entry)) at (Def.line index safe) (now (out .exit)) r × (r ≤ at + 51) ⌝ }
 {
-    let answer = safe.answer;
     let a = put_decimal(out, at, index);
-    let b = put_answer(out, a, answer, safe.probes, safe.halvings);
-    put(out, b, b'\n')
+    let b = put_ending(out, a, safe);
+    put_bytes(out, b, b"\n")
 }

@@ -1,4 +1,4 @@
 -- Laws that other crates cite, and helpers of this one. Assumes nothing.
-pub mod Scenes
 pub mod Spelling
+mod FourBytes
 mod Nans

@@ -1,17 +1,15 @@
 -- A scene file: its words, whether it is a scene, and the safe time of each of its pairs (docs/01-scope.md, "The scene
 -- file"). A file is the list of its bytes; where it ends, zeros follow. Definitions only.
 use Prim.Native.Nat.{ℕ, _+_, _*_, zero, suc}
+use mathlib.Core.Bool.{Bool, true, cond, _&&_, _||_}
 use mathlib.Core.List.{List, [], _∷_}
+use lib.Dec.{ltb, leb, eqb}
 use lib.ListN.{getD, length}
 use lib.Ieee.{Float, binary32, ofBits}
 use Rattle.geometry.specs.Geometry.{vec}
-use mathlib.Core.Bool.{Bool, true, cond, _&&_, _||_}
-use lib.Dec.{ltb, leb, eqb}
-use Rattle.scene.specs.declared.layout.Scene.{Scene}
-use Rattle.pair.specs.Points.{normOf}
-use Rattle.admission.specs.declared.Limits.{Limits}
 use Rattle.ccd3.specs.declared.SafeTime.{SafeTime}
-use Rattle.ccd3.specs.SafeTime.{safeTimeOf, Promises}
+use Rattle.own_time.specs.OwnTime.{ownSafeTime, OwnPromises}
+use Rattle.scene.specs.declared.layout.Scene.{Scene}
 
 -- ---- words and numbers
 -- the four bytes from place i on, the least significant first
@@ -26,19 +24,16 @@ abbrev pub point : List ℕ → ℕ → List Float
 point s i = vec (number s i) (number s (i + 4)) (number s (i + 8))
 
 -- ---- whether a file is a scene
--- The four sections, each a count of four bytes and then its entries: points and displacements of 12 bytes, pairs of
--- 20, limits of 12. Where each begins, from the number of points n and of pairs m.
+-- where the displacements begin, and the pairs, with their counts, in a file of n points
 abbrev pub displacementsAt : ℕ → ℕ
 displacementsAt n = 4 + 12 * n
 
 abbrev pub pairsAt : ℕ → ℕ
-pairsAt n = 8 + 24 * n
+pairsAt n = displacementsAt n + 4 + 12 * n
 
+-- where pair i begins; the limits, with their count, stand after the last pair
 abbrev pub pairAt : ℕ → ℕ → ℕ
-pairAt n i = 12 + 24 * n + 20 * i
-
-abbrev pub limitsAt : ℕ → ℕ → ℕ
-limitsAt n m = 12 + 24 * n + 20 * m
+pairAt n i = pairsAt n + 4 + 20 * i
 
 abbrev pub pointCount : List ℕ → ℕ
 pointCount s = word s 0
@@ -46,16 +41,19 @@ pointCount s = word s 0
 abbrev pub pairCount : List ℕ → ℕ
 pairCount s = word s (pairsAt (pointCount s))
 
+abbrev pub limitsAt : List ℕ → ℕ
+limitsAt s = pairAt (pointCount s) (pairCount s)
+
 -- the counts are as they must be, and the file is as long as they say: nothing is cut, nothing is left over
 unfoldable pub laidOut : List ℕ → Bool
 laidOut s =
     leb (pointCount s) 1024
     && eqb (word s (displacementsAt (pointCount s))) (pointCount s)
     && leb (pairCount s) 1024
-    && eqb (word s (limitsAt (pointCount s) (pairCount s))) 1
-    && eqb (length s) (limitsAt (pointCount s) (pairCount s) + 16)
+    && eqb (word s (limitsAt s)) 1
+    && eqb (length s) (limitsAt s + 16)
 
--- the pair at place p, in a file of n points: its kind is 2 or 3, each of its point numbers is below n
+-- the pair at place p, in a file of n points: its split is 2 or 3, each of its point numbers is below n
 unfoldable pub isPair : List ℕ → ℕ → ℕ → Bool
 isPair s p n =
     (eqb (word s p) 2 || eqb (word s p) 3)
@@ -86,34 +84,30 @@ sceneOf s =
 unfoldable pub chosen : List ℕ → ℕ → ℕ → List Float
 chosen s b p = point s (b + 12 * word s p)
 
--- the four points whose numbers stand from place p on
+-- the four points whose numbers pair i has
 unfoldable pub gathered : List ℕ → ℕ → ℕ → List (List Float)
-gathered s b p = chosen s b p ∷ chosen s b (p + 4) ∷ chosen s b (p + 8) ∷ chosen s b (p + 12) ∷ []
+gathered s b i =
+    let p = pairAt (pointCount s) i in
+    chosen s b (p + 4) ∷ chosen s b (p + 8) ∷ chosen s b (p + 12) ∷ chosen s b (p + 16) ∷ []
 
--- the file's limits, with this u_max
-unfoldable pub limitsOf : List ℕ → Float → Limits
-limitsOf s u =
-    let p = limitsAt (pointCount s) (pairCount s) in
-    record { offset = number s (p + 4); clearance = number s (p + 8); «max_t» = number s (p + 12); «u_max» = u }
+-- offset, clearance and time limit, for k from 1 to 3
+unfoldable pub limitOf : List ℕ → ℕ → Float
+limitOf s k = number s (limitsAt s + 4 * k)
 
--- pair i: its kind, its points, its displacements
-abbrev pub kindOf : List ℕ → ℕ → ℕ
-kindOf s i = word s (pairAt (pointCount s) i)
+module _ (s : List ℕ) (i : ℕ) where
+  -- pair i: its points, its displacements, its split
+  abbrev pub pointsOf : List (List Float)
+  pointsOf = gathered s 4 i
 
-abbrev pub pointsOf : List ℕ → ℕ → List (List Float)
-pointsOf s i = gathered s 4 (pairAt (pointCount s) i + 4)
+  abbrev pub displacementsOf : List (List Float)
+  displacementsOf = gathered s (displacementsAt (pointCount s) + 4) i
 
-abbrev pub displacementsOf : List ℕ → ℕ → List (List Float)
-displacementsOf s i = gathered s (displacementsAt (pointCount s) + 4) (pairAt (pointCount s) i + 4)
+  unfoldable pub splitOf : ℕ
+  splitOf = word s (pairAt (pointCount s) i)
 
--- its limits, where u_max is the norm of its displacements
-abbrev pub limitsFor : List ℕ → ℕ → Limits
-limitsFor s i = limitsOf s (normOf (displacementsOf s i) (kindOf s i))
+  -- its safe time, and what that promises
+  unfoldable pub safeTimeAt : SafeTime
+  safeTimeAt = ownSafeTime pointsOf displacementsOf splitOf (limitOf s 1) (limitOf s 2) (limitOf s 3)
 
--- its safe time
-unfoldable pub timeOf : List ℕ → ℕ → SafeTime
-timeOf s i = safeTimeOf (pointsOf s i) (displacementsOf s i) (kindOf s i) (limitsFor s i)
-
--- the promises of a safe time, of this pair
-abbrev pub Promised : List ℕ → ℕ → SafeTime → Type 0
-Promised s i = Promises (pointsOf s i) (displacementsOf s i) (kindOf s i) (limitsFor s i)
+  abbrev pub PromisesAt : SafeTime → Type 0
+  PromisesAt = OwnPromises pointsOf displacementsOf splitOf (limitOf s 1) (limitOf s 2) (limitOf s 3)

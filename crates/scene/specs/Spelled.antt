@@ -11,21 +11,24 @@ use Rattle.scene.specs.Scene.{arePairs, refused}
 unfoldable pub spell : ℕ → List ℕ
 spell n = (n % 256) ∷ (n / 256 % 256) ∷ (n / 65536 % 256) ∷ (n / 16777216 % 256) ∷ []
 
--- The file is laid out as a scene of n points and m pairs: four sections, each after its count. Of bytes that have come
--- so far, that they can still become such a file is `(rest : List ℕ) × Spelled (soFar ++ rest) n m`.
+-- The sections of a scene of n points and m pairs (points, displacements, pairs, limits): how many bytes an entry has,
+-- and how many entries there are.
+abbrev pub sections : ℕ → ℕ → List (ℕ × ℕ)
+sections n m = (12, n) ∷ (12, n) ∷ (20, m) ∷ (12, 1) ∷ []
+
+-- the bytes are these sections, one after the other: each is its count, and then its entries
+abbrev pub Joined : List ℕ → List (ℕ × ℕ) → Type 0
+Joined file [] = file ≡ []
+Joined file ((size, count) ∷ others) =
+    (entries : List ℕ) × (rest : List ℕ) × (file ≡ spell count ++ (entries ++ rest))
+    × (length entries ≡ size * count) × Joined rest others
+
+-- The file is laid out as a scene of n points and m pairs. Of bytes that have come so far, that they can still become
+-- such a file is `(rest : List ℕ) × Spelled (soFar ++ rest) n m`.
 pub record Spelled (file : List ℕ) (n m : ℕ) : Type 0 where
-  pub points : List ℕ
-  pub displacements : List ℕ
-  pub pairs : List ℕ
-  pub limits : List ℕ
-  pub bytes : file
-      ≡ spell n ++ (points ++ (spell n ++ (displacements ++ (spell m ++ (pairs ++ (spell 1 ++ limits))))))
   pub few-points : n ≤ 1024
   pub few-pairs : m ≤ 1024
-  pub points-length : length points ≡ 12 * n
-  pub displacements-length : length displacements ≡ 12 * n
-  pub pairs-length : length pairs ≡ 20 * m
-  pub limits-length : length limits ≡ 12
+  pub joined : Joined file (sections n m)
 
 -- What is read of a file: it is taken as a scene only if it is one of these counts; each such scene is taken; each that
 -- is laid out so and has a bad pair is refused by 11.

@@ -1,5 +1,5 @@
 // Whether a file is a scene (docs/01-scope.md, "The scene file"): refusal 10, the layout is wrong; 11, it is right and
-// some pair has a bad kind or point number.
+// some pair has a bad split or point number.
 ghost use mathlib.Core.Path.{_≡_};
 ghost use Prim.Native.Nat.{_<_};
 ghost use Rattle.scene.specs.Scene as Def;
@@ -31,13 +31,13 @@ fn is_laid_out(s: &[u8]) -> bool
         & (s.len() == limits + 16)
 }
 
-// The kind of the pair that begins at byte `at` is 2 or 3, and each of its point numbers is below the count.
+// The split of the pair that begins at byte `at` is 2 or 3, and each of its point numbers is below the count.
 fn is_pair(s: &[u8], at: usize, points: u32) -> bool
     requires { ⌜ at < 0x40_0000_0000 ⌝ }
     ensures { λ r. ⌜ r ≡ Def.isPair (now (s .entry)) at points ⌝ }
 {
-    let kind = word(s, at);
-    ((kind == 2) | (kind == 3))
+    let split = word(s, at);
+    ((split == 2) | (split == 3))
         & (word(s, at + 4) < points)
         & (word(s, at + 8) < points)
         & (word(s, at + 12) < points)

@@ -15,14 +15,14 @@ pub(crate) fn displacements_at(points: u32) -> usize
 pub(crate) fn pairs_at(points: u32) -> usize
     ensures { λ r. ⌜ (r ≡ Def.pairsAt points) × (r < 0x20_0000_0000) ⌝ }
 {
-    8 + 24 * (points as usize)
+    displacements_at(points) + 4 + 12 * (points as usize)
 }
 
-// Pair `index`, with its kind; the limits, with their count, stand after the last pair.
+// Pair `index`; the limits, with their count, stand after the last pair.
 pub(crate) fn pair_at(points: u32, index: u32) -> usize
     ensures { λ r. ⌜ (r ≡ Def.pairAt points index) × (r < 0x40_0000_0000) ⌝ }
 {
-    12 + 24 * (points as usize) + 20 * (index as usize)
+    pairs_at(points) + 4 + 20 * (index as usize)
 }
 
 // How many points and how many pairs the file says that it has.
@@ -40,8 +40,7 @@ pub(crate) fn pair_count(s: &[u8]) -> u32
 
 // Where the limits stand.
 pub(crate) fn limits_at(s: &[u8]) -> usize
-    ensures { λ r. ⌜ (r ≡ Def.limitsAt (Def.pointCount (now (s .entry))) (Def.pairCount (now (s .entry))))
-        × (r < 0x40_0000_0000) ⌝ }
+    ensures { λ r. ⌜ (r ≡ Def.limitsAt (now (s .entry))) × (r < 0x40_0000_0000) ⌝ }
 {
     pair_at(point_count(s), pair_count(s))
 }

@@ -1,11 +1,11 @@
 -- The library's answers as records of numbers, the refusal's number first, 0 for none (docs/01-scope.md, "Refusal
 -- numbers", "The walk"). What a refusal does not have is zero. Definitions only.
+use Prim.Native.Nat.{ℕ}
 use mathlib.Core.List.{List}
 use lib.Ieee.{Float}
-use Rattle.motion.specs.declared.record.Pair.{Pair}
-use Prim.Native.Nat.{ℕ}
 use Rattle.number.specs.declared.answer.Answered.{Answered}
 use Rattle.number.specs.Number.{refusalOf, valueOf}
+use Rattle.motion.specs.declared.record.Pair.{Pair}
 use Rattle.ccd3.specs.declared.SafeTime as Walked
 use Rattle.ccd3.specs.SafeTime.{numbersOf}
 use Rattle.urtemval.specs.declared.answer.SafeTime.{SafeTime}

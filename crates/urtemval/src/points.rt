@@ -6,8 +6,7 @@ ghost use Rattle.number.specs.Number.{answered};
 ghost use Rattle.admission.specs.Admission.{splitRefusal};
 ghost use Rattle.pair.specs.Points.{measured, normOf};
 ghost use Rattle.motion.specs.Scaling.{scalingOf, leaves};
-ghost use Rattle.urtemval.specs.Face as Told;
-ghost use Rattle.urtemval.specs.Face.{pairOf};
+ghost use Rattle.urtemval.specs.Face as Def;
 use crate::answer;
 use crate::answer::Value;
 use motion::record;
@@ -26,7 +25,7 @@ pub extern "C" fn urtemval_squared_distance(x: &[[f32; 3]; 4], split: usize) -> 
 
 #[no_mangle]
 pub extern "C" fn urtemval_max_relative_norm(x: &[[f32; 3]; 4], split: usize) -> Value
-    ensures { λ r. ⌜ r ≡ Told.told (answered (splitRefusal (now (x .entry)) split) (normOf (now (x .entry)) split)) ⌝ }
+    ensures { λ r. ⌜ r ≡ Def.told (answered (splitRefusal (now (x .entry)) split) (normOf (now (x .entry)) split)) ⌝ }
 {
     let points = *x;
     answer::told(norm::max_relative_norm(points, split))
@@ -40,9 +39,9 @@ pub extern "C" fn urtemval_scale_pair(
     dx: &mut [[f32; 3]; 4],
     max_t: f32,
 ) -> Value
-    ensures answer { λ r. ⌜ r ≡ Told.told (scalingOf (pairOf (now (x .entry)) (now (dx .entry))) «max_t») ⌝ }
-    ensures points { λ r. ⌜ now (x .exit) ≡ leaves (pairOf (now (x .entry)) (now (dx .entry))) «max_t» .x ⌝ }
-    ensures moves { λ r. ⌜ now (dx .exit) ≡ leaves (pairOf (now (x .entry)) (now (dx .entry))) «max_t» .dx ⌝ }
+    ensures answer { λ r. ⌜ r ≡ Def.told (scalingOf (Def.pairOf (now (x .entry)) (now (dx .entry))) «max_t») ⌝ }
+    ensures points { λ r. ⌜ now (x .exit) ≡ leaves (Def.pairOf (now (x .entry)) (now (dx .entry))) «max_t» .x ⌝ }
+    ensures moves { λ r. ⌜ now (dx .exit) ≡ leaves (Def.pairOf (now (x .entry)) (now (dx .entry))) «max_t» .dx ⌝ }
 {
     let points = *x;
     let moves = *dx;

@@ -6,7 +6,7 @@ ghost use Rattle.number.specs.Root.{rootOf, rootRefusal};
 ghost use Rattle.polynomial_root.specs.Cubic.{cubicOf};
 ghost use Rattle.polynomial_root.specs.Finder.{quadraticRoot, cubicRootsInRange};
 ghost use Rattle.motion.specs.Coplanar.{coplanarTimes};
-ghost use Rattle.urtemval.specs.Face as Told;
+ghost use Rattle.urtemval.specs.Face as Def;
 use crate::answer;
 use crate::answer::Value;
 use motion::coplanar;
@@ -15,7 +15,7 @@ use polynomial_root::answer::Roots;
 
 #[no_mangle]
 pub extern "C" fn urtemval_square_root(x: f32) -> Value
-    ensures { λ r. ⌜ r ≡ Told.told (answered (rootRefusal x) (rootOf x)) ⌝ }
+    ensures { λ r. ⌜ r ≡ Def.told (answered (rootRefusal x) (rootOf x)) ⌝ }
 {
     answer::told(root::square_root(x))
 }

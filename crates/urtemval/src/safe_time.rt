@@ -1,7 +1,7 @@
 // The safe time of a lent pair (`ccd3::safe_time::maximum_safe_time_accurate`).
 ghost use mathlib.Core.Path.{_≡_};
 ghost use Rattle.ccd3.specs.SafeTime.{allowance, safeTimeOf, Promised};
-ghost use Rattle.urtemval.specs.Face as Told;
+ghost use Rattle.urtemval.specs.Face as Def;
 use crate::answer;
 use crate::answer::SafeTime;
 use admission::Limits;
@@ -13,7 +13,7 @@ pub extern "C" fn urtemval_safe_time(
     split: usize,
     limits: Limits,
 ) -> SafeTime
-    ensures answer { λ r. ⌜ r ≡ Told.safeTime (safeTimeOf (now (x0 .entry)) (now (dx .entry)) split limits) ⌝ }
+    ensures answer { λ r. ⌜ r ≡ Def.safeTime (safeTimeOf (now (x0 .entry)) (now (dx .entry)) split limits) ⌝ }
     ensures promised { λ r. ⌜ Promised (now (x0 .entry)) (now (dx .entry)) split limits allowance
         (r .refusal) (r .kind) (r .time) (r .probes) (r .halvings) ⌝ }
 {

@@ -22,8 +22,5 @@ returns c =
 float-to-bits-result : tie.Need-float-to-bits-result
 float-to-bits-result c = no-nan-ne (c .before .args .t) (c .if1 .left)
 
-returns-2 : tie.Need-returns-2
-returns-2 c = search needs
-
 pub bits-of-spec : {M : Type 1} → statement M
-bits-of-spec = tie.close (tie.spec returns float-to-bits-result returns-2)
+bits-of-spec = tie.close (tie.spec returns float-to-bits-result (search needs))

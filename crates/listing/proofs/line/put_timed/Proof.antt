@@ -1,26 +1,25 @@
 -- `listing::line::put_timed` meets its contract: text after text. Assumes nothing.
 use borrow.Author.Needs.{needs}
-use Rattle.listing.proofs.Puts.{and-then}
+use Rattle.listing.specs.Listing.{timed}
+use Rattle.text.proofs.Puts.{and-then}
 use Rattle.listing.proofs.line.put_timed.Statement.{statement}
 use Rattle.listing.proofs.line.put_timed.Tie as tie
 
-put-text-requires : tie.Need-put-text-requires
-put-text-requires c κs = search needs
-
-put-time-requires : tie.Need-put-time-requires
-put-time-requires c κs = search needs
-
-same-length : tie.Need-same-length
-same-length c = search needs
-
 returns : tie.Need-returns
+unfolding timed
 returns c =
-    let time = c .before .before in
+    let halvings = c .before .before in
+    let probes = halvings .before .before .before .before in
+    let time = probes .before .before .before .before in
     let kind = time .before .before .before .before in (
-      and-then (kind .put-text .ensures)
-          (time .put-time .ensures .0),
+      and-then (and-then (and-then (kind .put-bytes .ensures)
+          (time .put-bits .ensures .0))
+          (probes .put-spaced .ensures .0))
+          (halvings .put-spaced2 .ensures .0),
       search needs,
     )
 
 pub put-timed-spec : {M : Type 1} → statement M
-put-timed-spec = tie.close (tie.spec put-text-requires put-time-requires same-length returns)
+put-timed-spec =
+    tie.close
+    (tie.spec (search needs) (search needs) (search needs) (search needs) (search needs) returns)

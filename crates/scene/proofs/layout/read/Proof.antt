@@ -8,7 +8,8 @@ use native.Mathlib.Omega.{arith}
 use Rattle.scene.specs.declared.layout.Scene.{Scene}
 use Rattle.scene.specs.Scene.{pointCount, pairCount, laidOut, arePairs, refused, sceneOf}
 use Rattle.scene.specs.Spelled.{Taken}
-use Rattle.scene.proofs.Spelling.{Bytes, taken-of}
+use Rattle.scene.proofs.FourBytes.{Bytes}
+use Rattle.scene.proofs.Spelling.{taken-of}
 use Rattle.scene.proofs.layout.read.Statement.{statement}
 use Rattle.scene.proofs.layout.read.Tie as tie
 
@@ -34,24 +35,6 @@ both s b r e = (e, rw e (taken-of s b))
 
 bytes : (c : tie.After-shared-slice-known) → Bytes (c .before .args .s .now)
 bytes c i = omega (arith, c .shared-slice-known .given i)
-
-is-laid-out-requires : tie.Need-is-laid-out-requires
-is-laid-out-requires c κs = search needs
-
-point-count-requires : tie.Need-point-count-requires
-point-count-requires c κs = search needs
-
-pair-count-requires : tie.Need-pair-count-requires
-pair-count-requires c κs = search needs
-
-are-pairs-requires : tie.Need-are-pairs-requires
-are-pairs-requires c κs = search needs
-
-refused-requires : tie.Need-refused-requires
-refused-requires c κs = search needs
-
-refused-requires-2 : tie.Need-refused-requires-2
-refused-requires-2 c κs = search needs
 
 returns : tie.Need-returns
 returns c =
@@ -81,13 +64,5 @@ returns-3 c =
 pub read-spec : {M : Type 1} → statement M
 read-spec =
     tie.close
-    (tie.spec
-    is-laid-out-requires
-    point-count-requires
-    pair-count-requires
-    are-pairs-requires
-    refused-requires
-    refused-requires-2
-    returns
-    returns-2
-    returns-3)
+    (tie.spec (search needs) (search needs) (search needs) (search needs) (search needs) (search needs) returns
+    returns-2 returns-3)

@@ -3,14 +3,8 @@ use borrow.Author.Needs.{needs}
 use Rattle.scene.proofs.words.number.Statement.{statement}
 use Rattle.scene.proofs.words.number.Tie as tie
 
-word-requires : tie.Need-word-requires
-word-requires c κs = search needs
-
-number-of-requires : tie.Need-number-of-requires
-number-of-requires c κs = search needs
-
 returns : tie.Need-returns
-returns c = rw (c .number-of .ensures, c .before .word .ensures)
+returns c = cc
 
 pub number-spec : {M : Type 1} → statement M
-number-spec = tie.close (tie.spec word-requires number-of-requires returns)
+number-spec = tie.close (tie.spec (search needs) (search needs) returns)

@@ -11,12 +11,9 @@ use Rattle.scene.proofs.words.number_of.Tie as tie
 float-from-bits-result : tie.Need-float-from-bits-result
 float-from-bits-result c = no-nan-bits (c .before .args .bits) (c .if1 .taken)
 
-returns : tie.Need-returns
-returns c = search needs
-
 returns-2 : tie.Need-returns-2
 unfolding ofBits div
 returns-2 c = sym (nan-of (c .before .args .bits) (c .if1 .left))
 
 pub number-of-spec : {M : Type 1} → statement M
-number-of-spec = tie.close (tie.spec float-from-bits-result returns returns-2)
+number-of-spec = tie.close (tie.spec float-from-bits-result (search needs) returns-2)

@@ -14,4 +14,4 @@ unfolding told refusalOf valueOf
 returns-2 c = rw (c .before .a2 .given .1)
 
 pub told-spec : {M : Type 1} → statement M
-told-spec = tie.close (tie.spec (λ c. search needs) (λ c. search needs) returns returns-2)
+told-spec = tie.close (tie.spec (search needs) (search needs) returns returns-2)

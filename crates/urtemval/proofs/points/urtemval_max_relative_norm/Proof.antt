@@ -8,4 +8,4 @@ returns : tie.Need-returns
 returns c = cc (c .before .max-relative-norm .ensures .0)
 
 pub urtemval-max-relative-norm-spec : {M : Type 1} → statement M
-urtemval-max-relative-norm-spec = tie.close (tie.spec (λ c κs. search needs) (λ c κs. search needs) returns)
+urtemval-max-relative-norm-spec = tie.close (tie.spec (search needs) (search needs) returns)

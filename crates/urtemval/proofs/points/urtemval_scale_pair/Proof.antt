@@ -67,5 +67,4 @@ returns-2 c =
 pub urtemval-scale-pair-spec : {M : Type 1} → statement M
 urtemval-scale-pair-spec =
     tie.close
-    (tie.spec (λ c κs. search needs) (λ c κs. search needs) (λ c κs. search needs) (λ c κs. search needs)
-    (λ c κs. search needs) returns returns-2)
+    (tie.spec (search needs) (search needs) (search needs) (search needs) (search needs) returns returns-2)

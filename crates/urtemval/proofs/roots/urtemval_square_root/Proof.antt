@@ -7,4 +7,4 @@ returns : tie.Need-returns
 returns c = cc (c .before .square-root .ensures .0)
 
 pub urtemval-square-root-spec : {M : Type 1} → statement M
-urtemval-square-root-spec = tie.close (tie.spec (λ c κs. search needs) (λ c κs. search needs) returns)
+urtemval-square-root-spec = tie.close (tie.spec (search needs) (search needs) returns)

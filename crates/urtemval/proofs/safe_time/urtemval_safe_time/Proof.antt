@@ -13,4 +13,4 @@ returns c = (
 )
 
 pub urtemval-safe-time-spec : {M : Type 1} → statement M
-urtemval-safe-time-spec = tie.close (tie.spec (λ c κs. search needs) (λ c κs. search needs) returns)
+urtemval-safe-time-spec = tie.close (tie.spec (search needs) (search needs) returns)

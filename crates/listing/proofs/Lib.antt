@@ -1,2 +1,0 @@
--- What the proofs of `listing` share. Assumes nothing.
-mod Puts

@@ -1,0 +1,19 @@
+-- A pair's own safe time: that of the walk, with the norm of the pair's displacements as u_max (docs/01-scope.md, "The
+-- scene file"). A norm beyond the range of u_max is refused by 2, as any u_max is. Definitions only.
+use Prim.Native.Nat.{ℕ}
+use mathlib.Core.List.{List}
+use lib.Ieee.{Float}
+use Rattle.pair.specs.Points.{normOf}
+use Rattle.admission.specs.declared.Limits.{Limits}
+use Rattle.ccd3.specs.declared.SafeTime.{SafeTime}
+use Rattle.ccd3.specs.SafeTime.{safeTimeOf, Promises}
+
+module _ (x₀ dx : List (List Float)) (split : ℕ) (offset clearance maxT : Float) where
+  abbrev pub ownLimits : Limits
+  ownLimits = record { offset = offset; clearance = clearance; «max_t» = maxT; «u_max» = normOf dx split }
+
+  abbrev pub ownSafeTime : SafeTime
+  ownSafeTime = safeTimeOf x₀ dx split ownLimits
+
+  abbrev pub OwnPromises : SafeTime → Type 0
+  OwnPromises = Promises x₀ dx split ownLimits
