@@ -1,14 +1,12 @@
 -- The distance of a pair: candidates in their order, of which the first smallest is taken (docs/01-scope.md, "Our
 -- distance rules"). Definitions only.
-use mathlib.Core.Bool.{cond, Bool, true, false, _&&_}
-use mathlib.Core.List.{List, [], _∷_}
-use lib.Ieee.{Float, eq, lt, le}
-use Rattle.number.specs.Number.{_⊘_, zero32, one32, clamp, _⊖_, _⊗_, zeroToOne, _⊕_}
-use Rattle.geometry.specs.Geometry.{minus, dot, lerpOf, along, col}
 use Prim.Native.Nat.{ℕ}
-use Rattle.distance.specs.declared.candidate.Nearest.{Nearest}
-use Rattle.distance.specs.declared.products.Products.{Products}
-use lib.Dec.{eqb}
+use mathlib.Core.Bool.{Bool, true, false, cond, _&&_}
+use mathlib.Core.List.{List, [], _∷_}
+use lib.{Dec.eqb, Ieee.Float, Ieee.lt, Ieee.le, Ieee.eq}
+use Rattle.number.specs.Number.{_⊕_, _⊖_, _⊗_, _⊘_, zero32, one32, clamp, zeroToOne}
+use Rattle.geometry.specs.Geometry.{col, minus, dot, along, lerpOf}
+use Rattle.distance.specs.declared.{candidate.Nearest.Nearest, products.Products.Products}
 
 -- ---- a point against a segment: the place on it that is taken as the nearest
 -- the ratio of the place from q0, d being the segment's direction: 0 where the segment has no length

@@ -76,14 +76,10 @@ unfoldable pub finitePair : Pair → Bool
 finitePair p = finitePoints (p .x) && finitePoints (p .dx)
 
 -- 1 and 2; 4, f is no use; 5, some scaled number is not finite
-abbrev pub pairRefusal : Pair → Float → ℕ
-pairRefusal p t = timeRefusal (p .x) (p .dx) t
-
 unfoldable pub scalingRefusal : Pair → Float → ℕ
 scalingRefusal p t =
-    admitted (pairRefusal p t)
-    (cond (usable (firstFactor p t)) (cond (finitePair (scaledPair p t)) 0 5) 4)
-    (pairRefusal p t)
+    let n = timeRefusal (p .x) (p .dx) t in
+    admitted n (cond (usable (firstFactor p t)) (cond (finitePair (scaledPair p t)) 0 5) 4) n
 
 -- what is answered: the product of the factors, or the refusal; and what the lent pair holds afterwards
 abbrev pub scalingOf : Pair → Float → Answered

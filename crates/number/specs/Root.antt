@@ -4,7 +4,7 @@ use mathlib.Core.Bool.{Bool, cond, _&&_, _||_}
 use Prim.Native.Nat.{ℕ, zero, suc, _+_, _-_, _*_, _/_, _%_, _^_}
 use lib.Dec.{ltb, eqb}
 use lib.Ieee.{Float, nan, inf, fin, binary32, up, down, lt, ofBits}
-use Rattle.number.specs.Number.{zero32, isFinite}
+use Rattle.number.specs.Number.{zero32, infBits, isFinite}
 
 -- the size of a finite number, counted in the smallest f32 above zero, 2 ^ -149
 unfoldable pub unitsOf : Float → ℕ
@@ -29,7 +29,7 @@ unfolding twiceMiddle twiceRootSquared
 rootAtLeast x b =
     let m = twiceMiddle b * twiceMiddle b in
     let n = twiceRootSquared x in
-    ltb b 0x7f80_0000 && (ltb m n || (eqb m n && eqb (b % 2) 0))
+    ltb b infBits && (ltb m n || (eqb m n && eqb (b % 2) 0))
 
 -- the last number below b + 2 ^ k that passes a test which b passes, for a test that none passes after one that fails
 unfoldable pub last : (ℕ → Bool) → ℕ → ℕ → ℕ
