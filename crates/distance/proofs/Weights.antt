@@ -1,6 +1,6 @@
 -- Two numbers that are not below zero and whose computed sum is at most 1: each is at most 1. So the weights of a
 -- place in a face are ratios. Assumes nothing.
-use mathlib.Core.Path.{_≡_, refl, sym, ap, _∙_, subst}
+use mathlib.Core.Path.{_≡_, sym, ap, _∙_, subst}
 use Prim.Native.Nat.{ℕ, _+_, _≤_, _<_}
 use native.Mathlib.Nat.{le-trans, lt-of-lt-of-le, lt-irrefl, add-comm, zero-add, mul-one}
 use native.Mathlib.Omega.{arith}

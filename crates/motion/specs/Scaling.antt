@@ -17,7 +17,8 @@ unfoldable pub largerEntry : Float → Float → Float → Float → Float
 largerEntry t most x dx = larger (larger most (size x)) (size (x ⊕ t ⊗ dx))
 
 abbrev pub largerColumn : Float → Float → List Float → List Float → Float
-largerColumn t most v d = largerEntry t (largerEntry t (largerEntry t most (at v 0) (at d 0)) (at v 1) (at d 1)) (at v 2) (at d 2)
+largerColumn t most v d =
+    let with : Float → ℕ → Float = λ most k. largerEntry t most (at v k) (at d k) in with (with (with most 0) 1) 2
 
 -- max_entry: the largest over the twelve places
 unfoldable pub maxEntry : List (List Float) → List (List Float) → Float → Float

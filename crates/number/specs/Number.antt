@@ -1,5 +1,5 @@
--- Single-precision numbers (docs/01-scope.md, opening, "Number helpers", "The numbers allowed", "Refusal numbers"): the
--- four operations, each rounded once to nearest even, the helpers, the ranges, and what a call answers. Definitions only.
+-- Single-precision numbers (docs/01-scope.md, opening, "Number helpers", "The numbers allowed", "Refusal numbers"):
+-- the operations, each rounded once to nearest even, the helpers, the ranges, what a call answers. Definitions only.
 use mathlib.Core.Bool.{true, false, cond, Bool, _&&_}
 use Prim.Native.Nat.{zero, suc, _-_, ℕ}
 use lib.Dec.{eqb}

@@ -14,18 +14,15 @@ unitsOf (fin s m e) = m * up e * 2 ^ 149 / down e
 
 -- twice the middle between the f32 of pattern b - 1 and the one of pattern b
 unfoldable pub twiceMiddle : ℕ → ℕ
-unfolding unitsOf
 twiceMiddle b = unitsOf (ofBits binary32 (b - 1)) + unitsOf (ofBits binary32 b)
 
 -- the square of twice the exact root of x, in the same unit
 unfoldable pub twiceRootSquared : Float → ℕ
-unfolding unitsOf
 twiceRootSquared x = 4 * (unitsOf x * 2 ^ 149)
 
 -- b is the pattern of a finite f32 from zero up, and the exact root of x lies above the middle below that f32, or on
 -- the middle and b is even
 unfoldable pub rootAtLeast : Float → ℕ → Bool
-unfolding twiceMiddle twiceRootSquared
 rootAtLeast x b =
     let m = twiceMiddle b * twiceMiddle b in
     let n = twiceRootSquared x in
@@ -38,7 +35,6 @@ last test (suc k) b = last test k (cond (test (b + 2 ^ k)) (b + 2 ^ k) b)
 
 -- the f32 nearest to the exact root of a positive finite x; plus zero for any other x
 unfoldable pub rootOf : Float → Float
-unfolding rootAtLeast last
 rootOf x = cond (lt zero32 x && isFinite x) (ofBits binary32 (last (rootAtLeast x) 31 0)) zero32
 
 -- the refusal number of an argument, 0 for none: 1 for NaN or an infinity, else 2 below zero

@@ -117,8 +117,8 @@ search-finds p b yes· no· (suc k) a h l = go (search-finds p b yes· no· k) (
         by false (is-false (p (a + 2 ^ k)) (no· (a + 2 ^ k) (lt-of-not-le f))) ∙ ih a h (lt-of-not-le f)
 
 -- the pattern that is reached, where the next one is not, is the one that the search finds
-pub root-at : (x : Float) (b : ℕ) → T (lt zero32 x) → T (isFinite x) → T (rootAtLeast x b) → T (not (rootAtLeast x (b + 1)))
-    → rootOf x ≡ ofBits binary32 b
+pub root-at : (x : Float) (b : ℕ) → T (lt zero32 x) → T (isFinite x) → T (rootAtLeast x b)
+    → T (not (rootAtLeast x (b + 1))) → rootOf x ≡ ofBits binary32 b
 unfolding rootOf
 root-at x b p f t n =
     ap (λ (c : Bool). cond c (ofBits binary32 (last (rootAtLeast x) 31 0)) zero32)
