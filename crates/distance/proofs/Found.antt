@@ -1,4 +1,4 @@
--- The candidates of either split (specs/EdgeEdge.antt, specs/FaceVertex.antt) as calls find them one by one: those of
+-- The candidates of either split (specs/Distance.antt) as calls find them one by one: those of
 -- the definition. Assumes nothing.
 use mathlib.Core.Path.{_≡_}
 use mathlib.Core.Bool.{Bool}

@@ -1,4 +1,4 @@
--- What the range tests of specs/Range.antt tell: finite, of what size at most, of what size at least. And the size of
+-- What the range tests of specs/Number.antt tell: finite, of what size at most, of what size at least. And the size of
 -- a constant by its bit pattern. Assumes nothing.
 use mathlib.Core.Path.{_≡_, sym, ap, _∙_, subst}
 use mathlib.Core.Logic.{inl, inr}

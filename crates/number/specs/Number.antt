@@ -1,7 +1,7 @@
 -- Single-precision numbers (docs/01-scope.md, opening, "Number helpers", "The numbers allowed", "Refusal numbers"):
 -- the operations, each rounded once to nearest even, the helpers, the ranges, what a call answers. Definitions only.
-use mathlib.Core.Bool.{true, false, cond, Bool, _&&_}
-use Prim.Native.Nat.{zero, suc, _-_, ℕ}
+use Prim.Native.Nat.{ℕ, zero, suc, _-_}
+use mathlib.Core.Bool.{Bool, true, false, cond, _&&_}
 use lib.Dec.{eqb}
 use lib.Ieee.{Float, nan, inf, fin, binary32, add, sub, mul, div, lt, le, eq, neg, toBits, ofBits}
 use Rattle.number.specs.declared.answer.Answered.{Answered, the-variants.Value, the-variants.Refused}
@@ -30,13 +30,13 @@ half32 = ofBits binary32 0x3f00_0000
 abbrev pub one32 : Float
 one32 = ofBits binary32 0x3f80_0000
 
--- the pattern of plus infinity; those below it are the finite numbers from zero up
-abbrev pub infBits : ℕ
-infBits = 0x7f80_0000
-
 -- the largest finite one
 abbrev pub largest32 : Float
 largest32 = ofBits binary32 0x7f7f_ffff
+
+-- the bits of plus infinity: the patterns below are those of the finite numbers from zero up
+abbrev pub infBits : ℕ
+infBits = 0x7f80_0000
 
 -- the absolute value: the sign is dropped, a zero's too
 unfoldable pub size : Float → Float

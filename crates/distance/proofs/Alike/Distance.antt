@@ -1,4 +1,4 @@
--- Candidates that are alike in their squared distances, the choice among them (specs/Candidate.antt), and so the
+-- Candidates that are alike in their squared distances, the choice among them (specs/Distance.antt), and so the
 -- squared distance of alike points: it does not see the sign of a zero. Assumes nothing.
 use mathlib.Core.Path.{_≡_, refl}
 use Prim.Native.Nat.{ℕ}
