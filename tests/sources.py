@@ -71,7 +71,8 @@ def imported(use):
     last = re.split(r"\.|::", use["path"].strip())[-1]
     names = use["names"].split(",") if use["names"] is not None else [use["alias"] or last]
     for name in names:
-        name = name.strip().split(" as ")[-1].strip()
+        # an item that stands below a module of the path, `N.d`, brings in `d`
+        name = name.strip().split(" as ")[-1].strip().rsplit(".", 1)[-1]
         if name:
             yield last if name == "self" else name
 

@@ -3,8 +3,7 @@
 use Prim.Native.Nat.{ℕ}
 use mathlib.Core.Bool.{Bool, _&&_, _||_}
 use mathlib.Core.List.{List}
-use lib.Dec.{eqb}
-use lib.Ieee.{Float}
+use lib.{Dec.eqb, Ieee.Float}
 use Rattle.number.specs.Number.{isFinite, inBound, zeroToBound, zeroToOne, speedRange, refusal}
 use Rattle.geometry.specs.Geometry.{at, col}
 use Rattle.admission.specs.declared.Limits.{Limits}

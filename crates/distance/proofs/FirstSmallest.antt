@@ -1,4 +1,4 @@
--- What is answered for a pair (specs/Nearest.antt) is the first smallest of its candidates: those before it are not at
+-- What is answered for a pair (specs/Distance.antt) is the first smallest of its candidates: those before it are not at
 -- or below it, those after it are not below it. A NaN is passed over, unless it comes first. Proved once for both
 -- splits. Assumes nothing.
 use Prim.Native.Nat.{ℕ}

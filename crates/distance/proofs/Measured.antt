@@ -15,7 +15,7 @@ use Rattle.geometry.specs.Geometry.{col, minus, along, lerpOf}
 use Rattle.geometry.proofs.Bounds.{VecWithin, PointsWithin, col-within, vec-more, minus-within, dot-within, along-within, lerp-within}
 use Rattle.distance.specs.declared.candidate.Nearest.{Nearest}
 use Rattle.distance.specs.declared.products.Products.{Products}
-use Rattle.distance.specs.Distance.{placeOn, beMinusCd, cdMinusBe, aeMinusBd, fromTo, pointSegment, segmentPoint, edgeProducts, edgesMeet, edgeInterior, edgeEdge, faceProducts, overFace, faceInterior, faceVertex, candidatesOf, nearestOf}
+use Rattle.distance.specs.Distance.{placeOn, productsOf, beMinusCd, cdMinusBe, aeMinusBd, fromTo, pointSegment, segmentPoint, edgesMeet, edgeInterior, edgeEdge, overFace, faceInterior, faceVertex, candidatesOf, nearestOf}
 use Rattle.distance.proofs.Listed.{listed, Each, each-only, smallest-keeps}
 use Rattle.distance.proofs.Weights.{weights-in}
 use Rattle.distance.proofs.Ratios.{square-is-plus, place-within}
@@ -97,8 +97,7 @@ module _ (a : ℕ) (l : a ≤ 58) where
           segment-point-good 2 x0 x1 x2 h0 h1 h2,
           (
             segment-point-good 3 x0 x1 x3 h0 h1 h3,
-            each-only Good (edgesMeet (edgeProducts x0 x1 x2 x3)) (edgeInterior (edgeProducts x0 x1 x2 x3) x0 x1 x2 x3)
-                (edge-interior-good (edgeProducts x0 x1 x2 x3)),
+            each-only Good _ _ (edge-interior-good (productsOf (minus x1 x0) (minus x3 x2) (minus x0 x2))),
           ),
         ),
       ),
@@ -136,8 +135,7 @@ module _ (a : ℕ) (l : a ≤ 58) where
         segment-point-good 1 x1 x2 x3 h1 h2 h3,
         (
           segment-point-good 2 x2 x0 x3 h2 h0 h3,
-          each-only Good (overFace (faceProducts x0 x1 x2 x3)) (faceInterior (faceProducts x0 x1 x2 x3) x0 x1 x2 x3)
-              (face-interior-good (faceProducts x0 x1 x2 x3)),
+          each-only Good _ _ (face-interior-good (productsOf (minus x1 x0) (minus x2 x0) (minus x3 x0))),
         ),
       ),
     )

@@ -1,4 +1,4 @@
--- The ratio of a place on a segment (specs/Segment.antt) is no NaN and lies in 0..1, for points within a bound: a
+-- The ratio of a place on a segment (specs/Distance.antt) is no NaN and lies in 0..1, for points within a bound: a
 -- squared length that is not zero is finite and above zero, so the quotient is no NaN, and what is no NaN is clamped
 -- to 0..1. Assumes nothing.
 use Prim.Native.Nat.{ℕ, suc, _+_, _≤_, _<_}

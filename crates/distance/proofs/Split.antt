@@ -1,4 +1,4 @@
--- Which candidates a split asks for (specs/Nearest.antt). Assumes nothing.
+-- Which candidates a split asks for (specs/Distance.antt). Assumes nothing.
 use Prim.Native.Nat.{ℕ}
 use mathlib.Core.Path.{_≡_}
 use mathlib.Core.List.{List}

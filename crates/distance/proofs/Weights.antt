@@ -1,6 +1,6 @@
 -- Two numbers that are not below zero and whose computed sum is at most 1: each is at most 1. So the weights of a
 -- place in a face are ratios. Assumes nothing.
-use mathlib.Core.Path.{_≡_, refl, sym, ap, _∙_, subst}
+use mathlib.Core.Path.{_≡_, sym, ap, _∙_, subst}
 use Prim.Native.Nat.{ℕ, _+_, _≤_, _<_}
 use native.Mathlib.Nat.{le-trans, lt-of-lt-of-le, lt-irrefl, add-comm, zero-add, mul-one}
 use native.Mathlib.Omega.{arith}
@@ -12,17 +12,13 @@ use lib.Ieee.{Float, nan, inf, fin, binary32, add, le, fits, ofBits}
 use lib.Ieee.Scale.{finite}
 use Rattle.number.specs.Number.{_⊕_, zero32, one32}
 use Rattle.number.proofs.Rounding.{rnd, rnd-fix}
-use Rattle.number.proofs.Units.{Top, Unit32, of-float}
+use Rattle.number.proofs.Units.{Top, Unit32, of-float, one-is}
 use Rattle.number.proofs.Units.Compared.{L, Is, le-says, says-le}
 use Rattle.number.proofs.Sums.{add-is}
 use Rattle.number.proofs.Later.{grows, add-over}
 
 abbrev Both : Float → Float → Type 0
 Both v w = T (le v one32) × T (le w one32)
-
-one-is : Is one32 L
-unfolding ofBits
-one-is = refl
 
 no-inf : T (le (inf false) one32) → ⊥
 unfolding le ofBits

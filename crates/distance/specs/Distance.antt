@@ -1,14 +1,12 @@
 -- The distance of a pair: candidates in their order, of which the first smallest is taken (docs/01-scope.md, "Our
 -- distance rules"). Definitions only.
-use mathlib.Core.Bool.{cond, Bool, true, false, _&&_}
-use mathlib.Core.List.{List, [], _∷_}
-use lib.Ieee.{Float, eq, lt, le}
-use Rattle.number.specs.Number.{_⊘_, zero32, one32, clamp, _⊖_, _⊗_, zeroToOne, _⊕_}
-use Rattle.geometry.specs.Geometry.{minus, dot, lerpOf, along, col}
 use Prim.Native.Nat.{ℕ}
-use Rattle.distance.specs.declared.candidate.Nearest.{Nearest}
-use Rattle.distance.specs.declared.products.Products.{Products}
-use lib.Dec.{eqb}
+use mathlib.Core.Bool.{Bool, true, false, cond, _&&_}
+use mathlib.Core.List.{List, [], _∷_}
+use lib.{Dec.eqb, Ieee.Float, Ieee.lt, Ieee.le, Ieee.eq}
+use Rattle.number.specs.Number.{_⊕_, _⊖_, _⊗_, _⊘_, zero32, one32, clamp, zeroToOne}
+use Rattle.geometry.specs.Geometry.{col, minus, dot, along, lerpOf}
+use Rattle.distance.specs.declared.{candidate.Nearest.Nearest, products.Products.Products}
 
 -- ---- a point against a segment: the place on it that is taken as the nearest
 -- the ratio of the place from q0, d being the segment's direction: 0 where the segment has no length
@@ -76,9 +74,6 @@ abbrev pub aeMinusBd : Products → Float
 aeMinusBd p = (p .a ⊗ p .e ⊖ p .b ⊗ p .d) ⊘ p .det
 
 -- ---- edge x0 x1 against edge x2 x3
-unfoldable pub edgeProducts : List Float → List Float → List Float → List Float → Products
-edgeProducts x0 x1 x2 x3 = productsOf (minus x1 x0) (minus x3 x2) (minus x0 x2)
-
 -- the interior candidate is there: s and r, its ratios along the first edge and the second, lie in 0..1
 unfoldable pub edgesMeet : Products → Bool
 edgesMeet p = lt zero32 (p .det) && zeroToOne (beMinusCd p) && zeroToOne (aeMinusBd p)
@@ -88,19 +83,15 @@ edgeInterior p x0 x1 x2 x3 = fromTo 4 (lerpOf x0 x1 (beMinusCd p)) (lerpOf x2 x3
 
 -- each end against the other edge, then the interior
 unfoldable pub edgeEdge : List Float → List Float → List Float → List Float → Candidates
-edgeEdge x0 x1 x2 x3 = record {
-  first = pointSegment 0 x0 x2 x3;
-  others =
-      pointSegment 1 x1 x2 x3
-      ∷ segmentPoint 2 x0 x1 x2
-      ∷ segmentPoint 3 x0 x1 x3
-      ∷ only (edgesMeet (edgeProducts x0 x1 x2 x3)) (edgeInterior (edgeProducts x0 x1 x2 x3) x0 x1 x2 x3);
-}
+edgeEdge x0 x1 x2 x3 =
+    let p = productsOf (minus x1 x0) (minus x3 x2) (minus x0 x2) in
+    let inner = only (edgesMeet p) (edgeInterior p x0 x1 x2 x3) in
+    record {
+      first = pointSegment 0 x0 x2 x3;
+      others = pointSegment 1 x1 x2 x3 ∷ segmentPoint 2 x0 x1 x2 ∷ segmentPoint 3 x0 x1 x3 ∷ inner;
+    }
 
 -- ---- face x0 x1 x2 against vertex x3
-unfoldable pub faceProducts : List Float → List Float → List Float → List Float → Products
-faceProducts x0 x1 x2 x3 = productsOf (minus x1 x0) (minus x2 x0) (minus x3 x0)
-
 -- the interior candidate is there: v and w, its weights along the edges from x0, are those of a place in the face
 unfoldable pub overFace : Products → Bool
 overFace p =
@@ -114,13 +105,13 @@ faceInterior p x0 x1 x2 x3 =
 
 -- the edges 0-1, 1-2 and 2-0 against the vertex, then the interior
 unfoldable pub faceVertex : List Float → List Float → List Float → List Float → Candidates
-faceVertex x0 x1 x2 x3 = record {
-  first = segmentPoint 0 x0 x1 x3;
-  others =
-      segmentPoint 1 x1 x2 x3
-      ∷ segmentPoint 2 x2 x0 x3
-      ∷ only (overFace (faceProducts x0 x1 x2 x3)) (faceInterior (faceProducts x0 x1 x2 x3) x0 x1 x2 x3);
-}
+faceVertex x0 x1 x2 x3 =
+    let p = productsOf (minus x1 x0) (minus x2 x0) (minus x3 x0) in
+    let inner = only (overFace p) (faceInterior p x0 x1 x2 x3) in
+    record {
+      first = segmentPoint 0 x0 x1 x3;
+      others = segmentPoint 1 x1 x2 x3 ∷ segmentPoint 2 x2 x0 x3 ∷ inner;
+    }
 
 -- ---- by the split: 2 says edge against edge; any other is taken as 3, face against vertex
 unfoldable pub candidatesOf : ℕ → List (List Float) → Candidates

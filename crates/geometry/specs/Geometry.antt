@@ -1,6 +1,6 @@
--- Vectors, points of a pair, a place along a segment, four points as a whole (docs/01-scope.md, "What callers hand
--- over", "A place along a segment", "Four points as a whole"). A vector is the list of its three numbers, the points of a
--- pair the list of their four columns. Sums of three go left to right. Definitions only.
+-- Vectors, a place along a segment, four points as a whole (docs/01-scope.md, "What callers hand over", "A place along
+-- a segment", "Four points as a whole"). A vector is the list of its three numbers, the points of a pair the list of
+-- their four columns. Sums of three go left to right. Definitions only.
 use Prim.Native.Nat.{ℕ, zero, suc, _-_}
 use mathlib.Core.List.{List, [], _∷_, map, flatMap}
 use lib.{ListN.getD, Ieee.Float, Ieee.nan, Ieee.binary32, Ieee.ofBits}

@@ -88,7 +88,8 @@ pub record Ended (n : ℕ) (r : Factors) : Type 0 where
   pub few : r .eights ≤ n
   pub last : T (not (lt eight32 (r .last)))
 
-pub eighths-end : (k n : ℕ) (f product : Float) → Left n f → n + k ≡ mostEights → Ended mostEights (eighths k n f product)
+pub eighths-end : (k n : ℕ) (f product : Float) → Left n f → n + k ≡ mostEights
+    → Ended mostEights (eighths k n f product)
 eighths-end zero n f product h e = rw (eighths-stop zero n f product stays) (record { few = h .few; last = stays })
   where
     full : (n : ℕ) → n + 0 ≡ mostEights → n < mostEights → ⊥

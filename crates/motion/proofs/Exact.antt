@@ -12,7 +12,7 @@ use lib.Ieee.{Float, fin, binary32, up, down, round, div, lt, fits, ofBits}
 use lib.Ieee.Fits.{mul-fits, down-pos}
 use Rattle.number.specs.Number.{_⊗_, _⊘_, zero32, one32, isFinite}
 use Rattle.number.proofs.Rounding.{rnd, Rep, rnd-fix}
-use Rattle.number.proofs.Units.{Top, plus, of-float, same-float, zero-is}
+use Rattle.number.proofs.Units.{Top, plus, of-float, same-float, zero-is, one-is}
 use Rattle.number.proofs.Units.Compared.{L, Is, lt-says}
 use Rattle.number.proofs.Sums.Rounded.{round-at, to-is, round-units}
 use Rattle.number.proofs.Products.{mul-is}
@@ -34,10 +34,6 @@ units-plus (fin true m e) u i p = none u (i .1) p
 eight-is : Is eight32 (2 ^ 3 * L)
 unfolding ofBits
 eight-is = refl
-
-one-is : Is one32 (2 ^ (3 * 0) * L)
-unfolding ofBits
-one-is = refl
 
 power-rep : (a : ℕ) → Rep (2 ^ a * L)
 power-rep a = (1, a + 149, lit< tt, sym (pow-add 2 a 149) ∙ sym (one-mul (2 ^ (a + 149))))

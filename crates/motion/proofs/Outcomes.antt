@@ -8,10 +8,11 @@ use lib.Ieee.{Float}
 use borrow.Author.Tests.{eq-eqb, ne-eqb}
 use Rattle.number.specs.declared.answer.Answered.the-variants.{Value}
 use Rattle.number.specs.Number.{answered}
+use Rattle.admission.specs.Admission.{timeRefusal}
 use Rattle.motion.specs.declared.record.Pair.{Pair}
 use Rattle.motion.specs.declared.factors.Factors.{Factors}
 use Rattle.motion.specs.declared.scaling.Outcome.{Outcome}
-use Rattle.motion.specs.Scaling.{usable, factorsOf, firstFactor, factorsFor, scaledWith, scaledPair, finitePair, pairRefusal, scalingRefusal, leaves, refusedBy, outcome}
+use Rattle.motion.specs.Scaling.{usable, factorsOf, firstFactor, factorsFor, scaledWith, scaledPair, finitePair, scalingRefusal, leaves, refusedBy, outcome}
 
 module _ (p : Pair) (t : Float) where
   refused-by : (n : ℕ) → scalingRefusal p t ≡ n → (n ≡ 0 → ⊥) → refusedBy p n ≡ outcome p t
@@ -24,7 +25,7 @@ module _ (p : Pair) (t : Float) where
   unfolding outcome answered leaves
   taken e = rw e
 
-  module _ (n : ℕ) (en : n ≡ pairRefusal p t) where
+  module _ (n : ℕ) (en : n ≡ timeRefusal (p .x) (p .dx) t) where
     pub by-admission : (n ≡ 0 → ⊥) → refusedBy p n ≡ outcome p t
     unfolding scalingRefusal
     by-admission h = refused-by n (rw (← en, ne-eqb n 0 h)) h

@@ -11,8 +11,9 @@ use borrow.Author.Tests.{eqb-true, eqb-false}
 use Rattle.number.specs.Number.{zero32, isFinite, admitted}
 use Rattle.number.specs.declared.answer.Answered.{Answered}
 use Rattle.number.proofs.Answers.{taken, refused, clauses}
+use Rattle.admission.specs.Admission.{timeRefusal}
 use Rattle.motion.specs.declared.record.Pair.{Pair}
-use Rattle.motion.specs.Scaling.{maxEntry, usable, mostEights, firstFactor, factorsFor, scaledPair, finitePair, pairRefusal, scalingRefusal, scalingOf, leaves, Scales}
+use Rattle.motion.specs.Scaling.{maxEntry, usable, mostEights, firstFactor, factorsFor, scaledPair, finitePair, scalingRefusal, scalingOf, leaves, Scales}
 use Rattle.motion.proofs.Eighths.{Ended, factors-end}
 use Rattle.motion.proofs.Exact.{product-exact}
 
@@ -36,9 +37,9 @@ module _ (p : Pair) (t : Float) where
   refused-stands z = sym (refused (scaledPair p t) p (scalingRefusal p t) (scalingRefusal p t) refl z)
 
   module _ (z : scalingRefusal p t ≡ 0) where
-    tests : (pairRefusal p t ≡ 0) × T (usable (firstFactor p t)) × T (finitePair (scaledPair p t))
+    tests : (timeRefusal (p .x) (p .dx) t ≡ 0) × T (usable (firstFactor p t)) × T (finitePair (scaledPair p t))
     unfolding scalingRefusal
-    tests = passed (pairRefusal p t) (usable (firstFactor p t)) (finitePair (scaledPair p t)) z
+    tests = passed (timeRefusal (p .x) (p .dx) t) (usable (firstFactor p t)) (finitePair (scaledPair p t)) z
 
     pub scaling-finite : T (finitePair (leaves p t))
     unfolding leaves

@@ -17,7 +17,8 @@ unfoldable pub largerEntry : Float → Float → Float → Float → Float
 largerEntry t most x dx = larger (larger most (size x)) (size (x ⊕ t ⊗ dx))
 
 abbrev pub largerColumn : Float → Float → List Float → List Float → Float
-largerColumn t most v d = largerEntry t (largerEntry t (largerEntry t most (at v 0) (at d 0)) (at v 1) (at d 1)) (at v 2) (at d 2)
+largerColumn t most v d =
+    let with : Float → ℕ → Float = λ most k. largerEntry t most (at v k) (at d k) in with (with (with most 0) 1) 2
 
 -- max_entry: the largest over the twelve places
 unfoldable pub maxEntry : List (List Float) → List (List Float) → Float → Float
@@ -76,14 +77,10 @@ unfoldable pub finitePair : Pair → Bool
 finitePair p = finitePoints (p .x) && finitePoints (p .dx)
 
 -- 1 and 2; 4, f is no use; 5, some scaled number is not finite
-abbrev pub pairRefusal : Pair → Float → ℕ
-pairRefusal p t = timeRefusal (p .x) (p .dx) t
-
 unfoldable pub scalingRefusal : Pair → Float → ℕ
 scalingRefusal p t =
-    admitted (pairRefusal p t)
-    (cond (usable (firstFactor p t)) (cond (finitePair (scaledPair p t)) 0 5) 4)
-    (pairRefusal p t)
+    let n = timeRefusal (p .x) (p .dx) t in
+    admitted n (cond (usable (firstFactor p t)) (cond (finitePair (scaledPair p t)) 0 5) 4) n
 
 -- what is answered: the product of the factors, or the refusal; and what the lent pair holds afterwards
 abbrev pub scalingOf : Pair → Float → Answered

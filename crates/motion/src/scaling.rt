@@ -1,6 +1,7 @@
 // Scaling a pair (docs/01-scope.md, "Scaling a pair"; ccd3.rs: `normalize_centerized_configuration`): its numbers are
 // multiplied by 8 and at last by a factor of at most 8, so that the largest, at time 0 or at max_t, is about 0.99.
 ghost use mathlib.Core.Path.{_≡_};
+ghost use Rattle.admission.specs.Admission.{timeRefusal};
 ghost use Rattle.motion.specs.Scaling as Def;
 use crate::factors::Factors;
 use crate::factors::{self};
@@ -16,7 +17,7 @@ pub(crate) struct Outcome {
 }
 
 fn admit_pair(p: Pair, max_t: f32) -> u32
-    ensures { λ r. ⌜ r ≡ Def.pairRefusal p «max_t» ⌝ }
+    ensures { λ r. ⌜ r ≡ timeRefusal (p .x) (p .dx) «max_t» ⌝ }
 {
     let x = record::x_of(p);
     let dx = record::dx_of(p);

@@ -6,7 +6,7 @@ use lib.Ieee.{binary32, lt, ofBits}
 use Rattle.number.specs.declared.answer.Answered.{Answered}
 use Rattle.number.specs.declared.answer.Answered.the-variants.{Value}
 use Rattle.number.specs.Number.{isFinite, answered}
-use Rattle.number.specs.Root.{rootOf, rootRefusal}
+use Rattle.number.specs.Root.{unitsOf, twiceMiddle, twiceRootSquared, rootAtLeast, last, rootOf, rootRefusal}
 
 -- what is answered to the pattern of an argument
 abbrev rootAt : ℕ → Answered
@@ -20,5 +20,5 @@ RootCorners =
     × (rootAt 0x4000_0000 ≡ Value (ofBits binary32 0x3fb5_04f3))
 
 pub root-corners : RootCorners
-unfolding answered rootRefusal rootOf isFinite lt ofBits
+unfolding answered rootRefusal rootOf last rootAtLeast twiceMiddle twiceRootSquared unitsOf isFinite lt ofBits
 root-corners = (refl, refl, refl, refl)

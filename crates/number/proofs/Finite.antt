@@ -1,4 +1,4 @@
--- The finite f32 values: `isFinite` (specs/Range.antt) is a comparison with the largest of them, either way.
+-- The finite f32 values: `isFinite` (specs/Number.antt) is a comparison with the largest of them, either way.
 -- Assumes nothing.
 use mathlib.Core.Path.{_≡_, refl, sym}
 use mathlib.Core.Bool.{true, false}

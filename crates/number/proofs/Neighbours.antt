@@ -14,17 +14,18 @@ use lib.Ieee.Bits.{ofBits-toBits, ofBits-fits}
 use lib.Ieee.Digits.{size-le}
 use lib.Ieee.Fits.{down-pos, kept-lt}
 use lib.Ieee.Scale.{finite}
+use Rattle.number.specs.Number.{infBits}
 use Rattle.number.proofs.Units.{Top, Is, Unit32, plus, shift, fin-false, no-size, lt-is, pattern, pattern-is}
 use Rattle.number.proofs.Patterns.{val, val-next, val-lt, bits-are}
 
 -- ---- a value's own pattern
-pattern-lt : (u : ℕ) → u < Top → pattern u < 2139095040
+pattern-lt : (u : ℕ) → u < Top → pattern u < infBits
 pattern-lt u h = fit (size u - 24) (u / 2 ^ (size u - 24)) (few (size u) (size-le u 277 h)) (kept-lt 24 u)
   where
     few : (z : ℕ) → z ≤ 277 → z - 24 ≤ 253
     few z l = omega arith
 
-    fit : (k q : ℕ) → k ≤ 253 → q < 16777216 → 0 + k * 8388608 + q < 2139095040
+    fit : (k q : ℕ) → k ≤ 253 → q < 16777216 → 0 + k * 8388608 + q < infBits
     fit k q a b = omega arith
 
 is-unique : (x : Float) (u v : ℕ) → Is x u → Is x v → u ≡ v
@@ -32,8 +33,8 @@ is-unique (fin false m e) u v p q = eq-of-mul-eq-mul-right (down e) (down-pos e)
 is-unique (fin true m e) u v p q = p .1 ∙ sym (q .1)
 
 module _ (x : Float) (u : ℕ) (f : T (fits binary32 x)) (p : T (plus x)) (i : Unit32 x u) where
-  pub bits-lt : toBits binary32 x < 2139095040
-  bits-lt = subst (λ (b : ℕ). b < 2139095040) (sym (pattern-is x u p (i .is))) (pattern-lt u (i .under))
+  pub bits-lt : toBits binary32 x < infBits
+  bits-lt = subst (λ (b : ℕ). b < infBits) (sym (pattern-is x u p (i .is))) (pattern-lt u (i .under))
 
   pub bits-val : val (toBits binary32 x) ≡ u
   bits-val =

@@ -10,7 +10,7 @@ use lib.IntN.{ℤ}
 use lib.Ieee.{Float, fin, binary32, fits, lt, toBits, ofBits}
 use lib.Ieee.Bits.{ofBits-toBits}
 use lib.Ieee.Scale.{finite}
-use Rattle.number.specs.Number.{nextUp}
+use Rattle.number.specs.Number.{nextUp, infBits}
 use Rattle.number.proofs.Units.{none-is, Is, finite-is, Unit32, plus, pattern-is, says-lt}
 use Rattle.number.proofs.Units.{lt-says}
 use Rattle.number.proofs.Patterns.{val, val-next, val-back, bits-are}
@@ -32,7 +32,7 @@ next-of x y f p g h = sym (ofBits-toBits binary32 y g) ∙ ap (ofBits binary32) 
 
 -- ---- it is the least above: of an x that is u units, short of the largest
 module _ (x : Float) (u : ℕ) (f : T (fits binary32 x)) (p : T (plus x)) (i : Unit32 x u)
-    (h : suc (toBits binary32 x) < 2139095040) where
+    (h : suc (toBits binary32 x) < infBits) where
   abbrev b : ℕ
   b = toBits binary32 x
 

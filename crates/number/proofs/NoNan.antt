@@ -12,7 +12,7 @@ use lib.Ieee.Compare.{nan-differs}
 use lib.Ieee.Fits.{and-i, fits-widens, round-is}
 use lib.Ieee.Order.{drop, kept}
 use lib.Ieee.Scale.{finite}
-use Rattle.number.specs.Number.{zero32}
+use Rattle.number.specs.Number.{zero32, infBits}
 use Rattle.number.proofs.Patterns.{no-nan-bits}
 use Rattle.number.proofs.Units.{L}
 use Rattle.number.proofs.Numbers.{zero-size}
@@ -40,11 +40,11 @@ no-nan-le (fin s m e) (inf t) h = (tt, tt)
 no-nan-le (fin s m e) (fin t n d) h = (tt, tt)
 
 -- a pattern that is no NaN's
-no-nan-of : (b : ℕ) → b % 2147483648 ≤ 2139095040 → T (not (isNan (ofBits binary32 b)))
+no-nan-of : (b : ℕ) → b % 2147483648 ≤ infBits → T (not (isNan (ofBits binary32 b)))
 no-nan-of b h = subst (λ (t : Bool). T (not t)) (nanBits-is binary32 b) (no-nan-bits b h)
 
 -- and an f32 of such a pattern can be cast to an f64
-pub widens : (b : ℕ) → b % 2147483648 ≤ 2139095040
+pub widens : (b : ℕ) → b % 2147483648 ≤ infBits
     → T (fits binary64 (ofBits binary32 b) && not (isNan (ofBits binary32 b)))
 widens b h =
     let x = ofBits binary32 b in

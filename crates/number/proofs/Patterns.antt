@@ -1,5 +1,5 @@
 -- The bit patterns of f32: what number each stands for, in units of 2 ^ -149, and that the next pattern stands for
--- the next number. 8388608 is the weight of the exponent's field, 2139095040 plus infinity, 2147483648 the sign.
+-- the next number. 8388608 is the weight of the exponent's field, `infBits` plus infinity, 2147483648 the sign.
 -- Assumes nothing.
 use mathlib.Core.Path.{_≡_, refl, sym, ap, _∙_, subst}
 use mathlib.Core.Logic.{_⊎_, inl, inr}
@@ -15,6 +15,7 @@ use lib.Pow.{pow-pos}
 use lib.Ieee.{Float, nan, inf, binary32, odd, ofFields, ofBits, toBits, nanBits}
 use lib.Ieee.Bits.{is-false, cond-no, toBits-ofBits, nanBits-is, nanBits-above}
 use lib.Ieee.Exact.{HasValue, odd-sign}
+use Rattle.number.specs.Number.{infBits}
 use Rattle.number.proofs.Numbers.{le-of-not-lt}
 use Rattle.number.proofs.Units.{L, Is}
 use Rattle.number.proofs.Sums.{to-is}
@@ -83,23 +84,23 @@ bits-value b h =
     digits : (b : ℕ) → b % 2147483648 % 8388608 ≡ b % 8388608
     digits b = omega arith
 
-pub bits-plus : (b : ℕ) → b < 2139095040 → HasValue (ofBits binary32 b) false (val b) L
+pub bits-plus : (b : ℕ) → b < infBits → HasValue (ofBits binary32 b) false (val b) L
 bits-plus b h =
     let s = leb 2147483648 b in
     let no : s ≡ false = is-false s (not-T s (λ (u : T s). under b h (leb→le 2147483648 b u))) in
     subst (λ (n : ℕ). HasValue (ofBits binary32 b) false (val n) L) (plain b h)
     (subst (λ (t : Bool). HasValue (ofBits binary32 b) t (val (b % 2147483648)) L) no (bits-value b (field b h)))
   where
-    plain : (b : ℕ) → b < 2139095040 → b % 2147483648 ≡ b
+    plain : (b : ℕ) → b < infBits → b % 2147483648 ≡ b
     plain b h = omega arith
 
-    under : (b : ℕ) → b < 2139095040 → 2147483648 ≤ b → ⊥
+    under : (b : ℕ) → b < infBits → 2147483648 ≤ b → ⊥
     under b h l = omega arith
 
-    field : (b : ℕ) → b < 2139095040 → b % 2147483648 / 8388608 < 255
+    field : (b : ℕ) → b < infBits → b % 2147483648 / 8388608 < 255
     field b h = omega arith
 
-pub bits-are : (b : ℕ) → b < 2139095040 → Is (ofBits binary32 b) (val b)
+pub bits-are : (b : ℕ) → b < infBits → Is (ofBits binary32 b) (val b)
 bits-are b h = to-is (ofBits binary32 b) (val b) (bits-plus b h)
 
 -- ---- the next pattern's number is 2 ^ weight more
@@ -160,14 +161,14 @@ pub val-le-back : (b c : ℕ) → val b ≤ val c → b ≤ c
 val-le-back b c h = le-of-not-lt (λ (l : c < b). lt-irrefl (val c) (lt-of-lt-of-le (val-lt c b l) h))
 
 -- ---- which patterns are a NaN's
-pub no-nan-bits : (b : ℕ) → b % 2147483648 ≤ 2139095040 → T (not (nanBits binary32 b))
+pub no-nan-bits : (b : ℕ) → b % 2147483648 ≤ infBits → T (not (nanBits binary32 b))
 no-nan-bits b h =
-    let t = ltb 2139095040 (b % 2147483648) in
+    let t = ltb infBits (b % 2147483648) in
     subst (λ (t : Bool). T (not t)) (sym (nanBits-above binary32 b))
-    (not-T t (λ (u : T t). lt-irrefl 2139095040 (lt-of-lt-of-le (ltb→lt 2139095040 (b % 2147483648) u) h)))
+    (not-T t (λ (u : T t). lt-irrefl infBits (lt-of-lt-of-le (ltb→lt infBits (b % 2147483648) u) h)))
 
 -- a pattern below plus infinity's is that of its own value
-pub bits-back : (b : ℕ) → b < 2139095040 → toBits binary32 (ofBits binary32 b) ≡ b
+pub bits-back : (b : ℕ) → b < infBits → toBits binary32 (ofBits binary32 b) ≡ b
 bits-back b h =
     toBits-ofBits binary32 b (omega arith)
     (subst (λ (t : Bool). T (not t)) (nanBits-is binary32 b) (no-nan-bits b (omega arith)))

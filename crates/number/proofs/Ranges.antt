@@ -1,4 +1,4 @@
--- What the range tests of specs/Range.antt tell: finite, of what size at most, of what size at least. And the size of
+-- What the range tests of specs/Number.antt tell: finite, of what size at most, of what size at least. And the size of
 -- a constant by its bit pattern. Assumes nothing.
 use mathlib.Core.Path.{_≡_, sym, ap, _∙_, subst}
 use mathlib.Core.Logic.{inl, inr}
@@ -12,7 +12,7 @@ use lib.Pow.{pow-add}
 use lib.Ieee.{Float, inf, fin, binary32, up, down, neg, lt, le, ofBits, nan}
 use lib.Ieee.Fits.{and-l, and-r, down-pos}
 use lib.Ieee.Scale.{finite}
-use Rattle.number.specs.Number.{zero32, one32, bound, minusBound, leastSpeed, mostSpeed, inBound, zeroToBound, zeroToOne, aboveZeroToOne, speedRange}
+use Rattle.number.specs.Number.{zero32, one32, bound, inBound, zeroToBound, zeroToOne, aboveZeroToOne, speedRange, infBits}
 use Rattle.number.proofs.Units.{L}
 use Rattle.number.proofs.Within.{Within, within-finite, units-within}
 use Rattle.number.proofs.Quotients.{AtLeast}
@@ -26,7 +26,7 @@ bits-within a b l h =
     units-within a (ofBits binary32 b) (val b) (bits-are b (lt-of-le-of-lt h (room a l)))
     (le-trans (val-le b top h) (le-of-eq (power-val a)))
   where
-    room : (a : ℕ) → a ≤ 127 → (127 + a) * 8388608 < 2139095040
+    room : (a : ℕ) → a ≤ 127 → (127 + a) * 8388608 < infBits
     room a l = omega arith
 
     field : (a : ℕ) → weight ((127 + a) * 8388608) ≡ 126 + a
@@ -109,6 +109,13 @@ at-least-tests b (fin true m e) f h =
     some d h e = omega arith
 
 -- what is not below a number above zero is above zero
+-- the ends of the range of speeds
+abbrev leastSpeed : Float
+leastSpeed = ofBits binary32 0x2180_0000
+
+abbrev mostSpeed : Float
+mostSpeed = ofBits binary32 0x5d80_0000
+
 above-least : (x : Float) → T (le leastSpeed x) → T (lt zero32 x)
 unfolding le ofBits
 above-least (inf false) h = tt
@@ -138,7 +145,7 @@ above-least (fin true m e) h =
 pub in-bound : (x : Float) → T (inBound x) → Within 20 x
 unfolding ofBits neg
 in-bound x h =
-    within-tests 20 x (and-l (le minusBound x) (le x bound) h) (and-r (le minusBound x) (le x bound) h)
+    within-tests 20 x (and-l (le (neg bound) x) (le x bound) h) (and-r (le (neg bound) x) (le x bound) h)
 
 pub zero-to-bound : (x : Float) → T (zeroToBound x) → T (le zero32 x) × Within 20 x
 unfolding ofBits

@@ -18,7 +18,7 @@ use lib.Ieee.Digits.{back}
 use lib.Ieee.Fits.{up-pos, down-pos, and-l, and-r}
 use lib.Ieee.Scale.{finite}
 use lib.Ieee.Bits.{ofBits-toBits}
-use Rattle.number.specs.Number.{zero32}
+use Rattle.number.specs.Number.{zero32, one32, bound}
 use Rattle.number.proofs.Rounding.{Rep}
 
 -- ---- a significand and an exponent in units
@@ -115,9 +115,18 @@ of-float (fin true m e) t f h =
       },
     )
 
+-- constants, in units
 pub zero-is : Is zero32 0
 unfolding ofBits
 zero-is = refl
+
+pub one-is : Is one32 L
+unfolding ofBits
+one-is = refl
+
+pub bound-is : Is bound (2 ^ 20 * L)
+unfolding ofBits
+bound-is = refl
 
 -- ---- a float of which the sign is plus is told by its units
 abbrev pub plus : Float → Bool

@@ -15,7 +15,7 @@ use Rattle.number.specs.Number.{zero32, one32}
 use Rattle.number.specs.Halving.{midpoint, window}
 use Rattle.number.proofs.Rounding.{rnd, Rep, rnd-mono, rnd-fix, rnd-rep, rnd-less}
 use Rattle.number.proofs.Middle.{mid, mid-between, mid-third, Third}
-use Rattle.number.proofs.Units.{L, Top, Is, Unit32, lt-is, le-is, eq-is, of-float}
+use Rattle.number.proofs.Units.{L, Top, Is, Unit32, lt-is, le-is, eq-is, of-float, one-is}
 use Rattle.number.proofs.Neighbours.{after, below-finite}
 use Rattle.number.proofs.Sums.{add-is, sub-is}
 use Rattle.number.proofs.Products.{half-is}
@@ -26,10 +26,6 @@ pub record Span (lo hi : Float) (u v : ℕ) : Type 0 where
   pub high : Unit32 hi v
   pub order : u < v
   pub top : v ≤ L
-
-one-is : Is one32 L
-unfolding ofBits
-one-is = refl
 
 low-finite : (lo hi : Float) → T (le zero32 lo) → T (lt lo hi) → T (finite lo)
 unfolding le ofBits

@@ -1,11 +1,10 @@
--- Single-precision numbers (docs/01-scope.md, opening, "Number helpers", "The numbers allowed", "Refusal numbers"): the
--- four operations, each rounded once to nearest even, the helpers, the ranges, and what a call answers. Definitions only.
-use mathlib.Core.Bool.{true, false, cond, Bool, _&&_}
-use Prim.Native.Nat.{zero, suc, _-_, ℕ}
-use lib.Ieee.{Float, nan, inf, fin, binary32, add, sub, mul, div, lt, le, eq, neg, toBits, ofBits}
+-- Single-precision numbers (docs/01-scope.md, opening, "Number helpers", "The numbers allowed", "Refusal numbers"):
+-- the operations, each rounded once to nearest even, the helpers, the ranges, what a call answers. Definitions only.
+use Prim.Native.Nat.{ℕ, zero, suc, _-_}
+use mathlib.Core.Bool.{Bool, true, false, cond, _&&_}
 use lib.Dec.{eqb}
-use Rattle.number.specs.declared.answer.Answered.{Answered}
-use Rattle.number.specs.declared.answer.Answered.the-variants.{Value, Refused}
+use lib.Ieee.{Float, nan, inf, fin, binary32, add, sub, mul, div, lt, le, eq, neg, toBits, ofBits}
+use Rattle.number.specs.declared.answer.Answered.{Answered, the-variants.Value, the-variants.Refused}
 
 infixl 65 _⊕_ _⊖_
 infixl 70 _⊗_ _⊘_
@@ -34,6 +33,10 @@ one32 = ofBits binary32 0x3f80_0000
 -- the largest finite one
 abbrev pub largest32 : Float
 largest32 = ofBits binary32 0x7f7f_ffff
+
+-- the bits of plus infinity: the patterns below are those of the finite numbers from zero up
+abbrev pub infBits : ℕ
+infBits = 0x7f80_0000
 
 -- the absolute value: the sign is dropped, a zero's too
 unfoldable pub size : Float → Float
@@ -66,19 +69,9 @@ nextUp (fin false (suc m) e) = ofBits binary32 (suc (toBits binary32 (fin false 
 nextUp (fin true (suc m) e) = ofBits binary32 (toBits binary32 (fin true (suc m) e) - 1)
 
 -- ---- the ranges that a number handed over must lie in: both ends are in, minus zero is zero, a NaN lies in none
--- 2 ^ 20, the bound of what is handed over, and its negative
+-- 2 ^ 20, the bound of what is handed over
 abbrev pub bound : Float
 bound = ofBits binary32 0x4980_0000
-
-abbrev pub minusBound : Float
-minusBound = neg bound
-
--- 2 ^ -60 and 2 ^ 60
-abbrev pub leastSpeed : Float
-leastSpeed = ofBits binary32 0x2180_0000
-
-abbrev pub mostSpeed : Float
-mostSpeed = ofBits binary32 0x5d80_0000
 
 -- neither NaN nor an infinity
 unfoldable pub isFinite : Float → Bool
@@ -91,7 +84,7 @@ between low high x = le low x && le x high
 
 -- coordinates, displacements, coefficients: size at most 2 ^ 20
 abbrev pub inBound : Float → Bool
-inBound x = between minusBound bound x
+inBound x = between (neg bound) bound x
 
 -- offset, clearance, epsilon, a scale factor: 0 to 2 ^ 20
 abbrev pub zeroToBound : Float → Bool
@@ -107,7 +100,7 @@ aboveZeroToOne x = lt zero32 x && le x one32
 
 -- u_max: 2 ^ -60 to 2 ^ 60
 abbrev pub speedRange : Float → Bool
-speedRange x = between leastSpeed mostSpeed x
+speedRange x = between (ofBits binary32 0x2180_0000) (ofBits binary32 0x5d80_0000) x
 
 -- ---- what a call answers
 -- 1 where some number is not finite, else 2 where something lies beyond its range, else 0: admitted

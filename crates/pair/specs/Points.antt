@@ -40,13 +40,13 @@ unfoldable pub normOf : List (List Float) → ℕ → Float
 normOf x split = rootOf (largestSquare x split)
 
 -- ---- the distance of the two sides: the first smallest candidate's numbers; a refused call carries zeros
-abbrev pub foundAt : List (List Float) → ℕ → Measured
-foundAt x split =
-    let n = nearestOf split x in
-    record { refusal = 0; squared = n .squared; direction = n .direction; candidate = n .candidate }
-
 abbrev pub refusedBy : ℕ → Measured
 refusedBy n = record { refusal = n; squared = zero32; direction = zeros; candidate = 0 }
 
 unfoldable pub measured : List (List Float) → ℕ → Measured
-measured x split = admitted (splitRefusal x split) (foundAt x split) (refusedBy (splitRefusal x split))
+measured x split =
+    let refusal = splitRefusal x split in
+    let n = nearestOf split x in
+    admitted refusal
+    (record { refusal = 0; squared = n .squared; direction = n .direction; candidate = n .candidate })
+    (refusedBy refusal)

@@ -1,9 +1,7 @@
 -- The numbers of an admitted call, as bounds. Assumes nothing.
 use mathlib.Core.Path.{_≡_}
 use mathlib.Core.Bool.{Bool, _&&_}
-use lib.Dec.{T}
 use lib.Ieee.{Float}
-use lib.Ieee.Fits.{and-l, and-r}
 use Rattle.number.specs.Number.{isFinite, inBound, zeroToBound, aboveZeroToOne}
 use Rattle.number.proofs.Answers.{refusal-none}
 use Rattle.number.proofs.Comparing.{all-three, all-four}

@@ -5,7 +5,7 @@ use mathlib.Core.Path.{_≡_, refl}
 use mathlib.Core.List.{[], _∷_}
 use lib.Ieee.{Float, binary32, neg, add, sub, mul, div, lt, le, eq, ofBits}
 use Rattle.number.specs.Number.{zero32, half32, one32, size, smaller, larger, clamp, isFinite, written}
-use Rattle.number.specs.Root.{rootOf}
+use Rattle.number.specs.Root.{unitsOf, twiceMiddle, twiceRootSquared, rootAtLeast, last, rootOf}
 use Rattle.number.proofs.Corners.{RootCorners, root-corners}
 use Rattle.polynomial_root.specs.Quadratic.{none, refused, push, two32, solved}
 use Rattle.polynomial_root.specs.Cubic.{three32, cubicOf, descend, started, spanRoot, linearRoots, keep, keptRoots, lowerRoots, joined, after, spanRoots, cubicRoots}
@@ -42,5 +42,5 @@ pub corners : Corners
 unfolding
     quadraticRoot solvedRoots cubicRootsInRange cubicRoots spanRoots after joined
     spanRoot started descend lowerRoots keptRoots keep linearRoots solved push written
-    rootOf isFinite size smaller larger clamp ofBits neg add sub mul div lt le eq
+    rootOf last rootAtLeast twiceMiddle twiceRootSquared unitsOf isFinite size smaller larger clamp ofBits neg add sub mul div lt le eq
 corners = (root-corners, refl, refl, refl, refl, refl, refl, refl, refl)

@@ -9,7 +9,7 @@ use Rattle.number.specs.Number.{_⊖_, _⊗_, _⊘_, zero32, size, smaller, lar
 use Rattle.number.proofs.Within.{Within, within-finite}
 use Rattle.number.proofs.Comparing.{lt-le}
 use Rattle.polynomial_root.specs.Quadratic.{none}
-use Rattle.polynomial_root.specs.Cubic.{valueAt, slopeAt, stepped, bothZero, descend, newtonSteps, started, endAt, spanRoot, start, partRoot, spanRoots, after}
+use Rattle.polynomial_root.specs.Cubic.{valueAt, slopeAt, stepped, bothZero, descend, newtonSteps, started, endAt, spanRoot, start, partRoot, spanRoots}
 use Rattle.polynomial_root.specs.declared.cubic.Cubic.{Cubic}
 use Rattle.polynomial_root.specs.declared.newton.Found.the-variants.{Root, Nothing, Refused}
 use Rattle.polynomial_root.specs.declared.quadratic.Solved.{Solved}
@@ -46,7 +46,8 @@ module _ (p : Cubic) (t epsilon : Float) (h : Allowed p t) where
   unfolding descend
   descend-in-range zero r i = written-in-range t (h .above) r i
   descend-in-range (suc k) r i =
-      go (lt (size (valueAt p r)) epsilon) (bothZero (valueAt p r) (slopeAt p r)) (λ n. descend-in-range k (stepped p t r) (step-in-range r i n))
+      go (lt (size (valueAt p r)) epsilon) (bothZero (valueAt p r) (slopeAt p r))
+      (λ n. descend-in-range k (stepped p t r) (step-in-range r i n))
     where
       go : (a b : Bool) → (b ≡ false → Gives In (descend p t epsilon k (stepped p t r)))
           → Gives In (cond a (Root r) (cond b (Refused 8) (descend p t epsilon k (stepped p t r))))

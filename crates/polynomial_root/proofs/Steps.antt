@@ -1,7 +1,7 @@
 -- One of Newton's steps, over the values that its calls give: it stops at a small value, refuses by 8 where value and
 -- slope are zero, or goes on. So the loop with its cap follows the definition. Assumes nothing.
 use Prim.Native.Nat.{ℕ, suc, _+_, _<_}
-use mathlib.Core.Path.{_≡_, refl, sym, _∙_}
+use mathlib.Core.Path.{_≡_}
 use mathlib.Core.Bool.{true, false}
 use lib.Ieee.{Float, lt}
 use Rattle.number.specs.Number.{_⊖_, _⊘_, zero32, size, clamp}

@@ -1,4 +1,4 @@
--- Candidates that are alike in their squared distances, the choice among them (specs/Candidate.antt), and so the
+-- Candidates that are alike in their squared distances, the choice among them (specs/Distance.antt), and so the
 -- squared distance of alike points: it does not see the sign of a zero. Assumes nothing.
 use mathlib.Core.Path.{_≡_, refl}
 use Prim.Native.Nat.{ℕ}
@@ -7,9 +7,10 @@ use mathlib.Core.List.{List, [], _∷_}
 use lib.Dec.{eqb}
 use lib.Ieee.{Float, lt}
 use Rattle.number.proofs.Alike.{Alike, lt-alike}
+use Rattle.geometry.specs.Geometry.{minus}
 use Rattle.distance.specs.declared.candidate.Nearest.{Nearest}
 use Rattle.distance.specs.declared.products.Products.{Products}
-use Rattle.distance.specs.Distance.{Candidates, fromTo, pointSegment, segmentPoint, only, nearer, nearestFrom, edgeProducts, edgesMeet, edgeInterior, edgeEdge, faceProducts, overFace, faceInterior, faceVertex, candidatesOf, nearestOf}
+use Rattle.distance.specs.Distance.{Candidates, fromTo, productsOf, pointSegment, segmentPoint, only, nearer, nearestFrom, edgesMeet, edgeInterior, edgeEdge, overFace, faceInterior, faceVertex, candidatesOf, nearestOf}
 use Rattle.distance.proofs.Alike.Vectors.{AlikeVec, AlikePoints, minus-alike, along-alike, dot-alike, lerp-alike, place-alike}
 use Rattle.distance.proofs.Alike.Products.{AlikeProducts, products-alike, be-minus-cd, cd-minus-be, ae-minus-bd, and-first, edges-meet-same, over-face-same}
 
@@ -63,12 +64,12 @@ nearest-from-alike p (next q r) = nearest-from-alike (nearer-alike p q) r
 -- ---- the candidates of either split
 module _ {x0 y0 x1 y1 x2 y2 x3 y3 : List Float} (h0 : AlikeVec x0 y0) (h1 : AlikeVec x1 y1) (h2 : AlikeVec x2 y2)
     (h3 : AlikeVec x3 y3) where
-  edge-products-alike : AlikeProducts (edgeProducts x0 x1 x2 x3) (edgeProducts y0 y1 y2 y3)
-  unfolding edgeProducts
+  edge-products-alike : AlikeProducts (productsOf (minus x1 x0) (minus x3 x2) (minus x0 x2))
+      (productsOf (minus y1 y0) (minus y3 y2) (minus y0 y2))
   edge-products-alike = products-alike (minus-alike h1 h0) (minus-alike h3 h2) (minus-alike h0 h2)
 
-  face-products-alike : AlikeProducts (faceProducts x0 x1 x2 x3) (faceProducts y0 y1 y2 y3)
-  unfolding faceProducts
+  face-products-alike : AlikeProducts (productsOf (minus x1 x0) (minus x2 x0) (minus x3 x0))
+      (productsOf (minus y1 y0) (minus y2 y0) (minus y3 y0))
   face-products-alike = products-alike (minus-alike h1 h0) (minus-alike h2 h0) (minus-alike h3 h0)
 
   module _ {p q : Products} (h : AlikeProducts p q) where

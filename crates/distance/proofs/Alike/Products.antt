@@ -1,4 +1,4 @@
--- The interior candidate (specs/Products.antt): of alike directions and gaps the products are alike, where det is
+-- The interior candidate (specs/Distance.antt): of alike directions and gaps the products are alike, where det is
 -- above zero the quotients too, and the tests whether the candidate is there answer the same. Assumes nothing.
 use mathlib.Core.Path.{_≡_, refl}
 use mathlib.Core.Bool.{Bool, true, false, _&&_}

@@ -1,5 +1,5 @@
 -- Vectors and points that are alike (`Alike` of number's proofs) number by number: the vector operations and the place
--- on a segment (specs/Segment.antt) keep it. Assumes nothing.
+-- on a segment (specs/Distance.antt) keep it. Assumes nothing.
 use mathlib.Core.List.{List}
 use lib.Ieee.{Float}
 use Rattle.number.proofs.Alike.{Alike, same, add-alike, sub-alike, mul-alike, div-alike, no-zero-eq, eq-alike, cond-alike, clamp-alike}

@@ -12,7 +12,7 @@ use lib.Pow.{pow-add, pow-mono, shl-lt, shl-exact}
 use lib.Count.{leadingZeros, leading-top}
 use lib.Ieee.{Float, nan, inf, fin, binary32, up, down, lt, fits, ofBits, toBits}
 use lib.Ieee.Bits.{ofBits-toBits}
-use Rattle.number.specs.Number.{zero32, isFinite}
+use Rattle.number.specs.Number.{zero32, isFinite, infBits}
 use Rattle.number.specs.Root.{unitsOf, rootAtLeast, last, rootOf}
 use Rattle.number.proofs.Units.{L, Is, shift, fin-false}
 use Rattle.number.proofs.Patterns.{val, weight, bits-are}
@@ -51,9 +51,9 @@ pub below : (x : Float) → lt x zero32 ≡ true → zero32 ≡ rootOf x
 below x h = not-above x (below-not-above x h)
 
 -- ---- the patterns of numbers above zero
-above-bits : (x : Float) → T (fits binary32 x) → T (lt zero32 x) → toBits binary32 x ≤ 2139095040
+above-bits : (x : Float) → T (fits binary32 x) → T (lt zero32 x) → toBits binary32 x ≤ infBits
 unfolding lt ofBits
-above-bits (inf false) f h = unfold toBits in le-refl 2139095040
+above-bits (inf false) f h = unfold toBits in le-refl infBits
 above-bits (fin false m e) f h = le-of-lt (bits-lt (fin false m e) (m * 2 ^ shift e) f tt (fin-false m e f))
 
 module _ (x : Float) (f : T (fits binary32 x)) (a : T (lt zero32 x)) where
@@ -79,21 +79,21 @@ module _ (x : Float) (f : T (fits binary32 x)) (a : T (lt zero32 x)) where
   unfolding ofBits
   at-top h =
       let l = above-bits x f a in
-      let e : b ≡ 2139095040 = omega arith in
+      let e : b ≡ infBits = omega arith in
       not-finite (inf false) inf-not ∙ ap rootOf (sym (ap (ofBits binary32) e) ∙ own)
 
-  pub finite-bits : b < 2139095040 → T (isFinite x)
+  pub finite-bits : b < infBits → T (isFinite x)
   unfolding isFinite
   finite-bits h = go x (subst (λ (y : Float). Is y (val b)) own (bits-are b h))
     where
       go : (y : Float) → Is y (val b) → T (isFinite y)
       go (fin s m e) i = tt
 
-  units-own : b < 2139095040 → unitsOf x ≡ val b
+  units-own : b < infBits → unitsOf x ≡ val b
   units-own h = ap unitsOf (sym own) ∙ units-bits b h
 
   -- ---- a normal argument
-  pub scale-normal : b < 2139095040 → 0 < b / 8388608
+  pub scale-normal : b < infBits → 0 < b / 8388608
       → unitsOf x * L ≡ (b - weight b * 8388608) * 2 ^ (b / 8388608 + 23 + 125)
   scale-normal h p =
       let q = b - weight b * 8388608 in

@@ -8,7 +8,7 @@ use native.Mathlib.Omega.{arith}
 use lib.Dec.{T, not-T}
 use lib.Pow.{pow-add, pow-pos}
 use lib.Ieee.{Float, binary32, lt, ofBits}
-use Rattle.number.specs.Number.{zero32, isFinite}
+use Rattle.number.specs.Number.{zero32, isFinite, infBits}
 use Rattle.number.specs.Root.{unitsOf, twiceMiddle, twiceRootSquared, rootAtLeast, rootOf}
 use Rattle.number.specs.RootDigits.{RootBits, wholeOf}
 use Rattle.number.proofs.Numbers.{square-mono}
@@ -39,7 +39,7 @@ module _ (p k b : ℕ) (low : 2 ^ 23 ≤ p) (high : p < 2 ^ 24) (short : k < 300
   abbrev w : ℕ
   w = unit k
 
-  pub bits-lt : b + 1 < 2139095040
+  pub bits-lt : b + 1 < infBits
   bits-lt = let m = r .made in let h = r .high in omega arith
 
   weight-is : weight b ≡ k / 2 + 51

@@ -9,7 +9,7 @@ use native.Mathlib.Omega.{arith}
 use native.Mathlib.Decide.{decLe}
 use lib.Dec.{T}
 use lib.Ieee.{Float, fin, binary32, lt, fits, ofBits, toBits}
-use Rattle.number.specs.Number.{zero32, isFinite}
+use Rattle.number.specs.Number.{zero32, isFinite, infBits}
 use Rattle.number.specs.Root.{unitsOf, rootOf}
 use Rattle.number.specs.RootDigits.{RootBits, wholeOf}
 use Rattle.number.proofs.Units.{L, shift, fin-false}
@@ -55,7 +55,7 @@ pub record Found (x : Float) : Type 0 where
   pub bits : RootBits p k b
   pub scale : unitsOf x * L ≡ p * 2 ^ (k + 125)
 
-finite-lt : (x : Float) → T (fits binary32 x) → T (lt zero32 x) → T (isFinite x) → toBits binary32 x < 2139095040
+finite-lt : (x : Float) → T (fits binary32 x) → T (lt zero32 x) → T (isFinite x) → toBits binary32 x < infBits
 unfolding lt isFinite ofBits
 finite-lt (fin false m e) f a h = bits-lt (fin false m e) (m * 2 ^ shift e) f tt (fin-false m e f)
 

@@ -11,7 +11,7 @@ use lib.Dec.{T, ltb, eqb, ltb→lt, lt→ltb, eqb→eq, not-T, T-not}
 use lib.Ieee.{Float, fin, binary32, down, lt, ofBits}
 use lib.Ieee.Bits.{is-true, is-false}
 use lib.Ieee.Fits.{and-i, and-l, and-r, eq→eqb, down-pos}
-use Rattle.number.specs.Number.{zero32, isFinite}
+use Rattle.number.specs.Number.{zero32, isFinite, infBits}
 use Rattle.number.specs.Root.{unitsOf, twiceMiddle, twiceRootSquared, rootAtLeast, last, rootOf}
 use Rattle.number.proofs.Numbers.{le-of-not-lt, square-mono}
 use Rattle.number.proofs.Units.{Is, size-is}
@@ -23,17 +23,17 @@ pub units-is : (x : Float) (u : ℕ) → Is x u → unitsOf x ≡ u
 unfolding unitsOf
 units-is (fin s m e) u h = ap (λ (n : ℕ). n / down e) (size-is s m e u h) ∙ mul-div-cancel u (down-pos e)
 
-pub units-bits : (b : ℕ) → b < 2139095040 → unitsOf (ofBits binary32 b) ≡ val b
+pub units-bits : (b : ℕ) → b < infBits → unitsOf (ofBits binary32 b) ≡ val b
 units-bits b h = units-is (ofBits binary32 b) (val b) (bits-are b h)
 
 -- ---- middles
-pub middle-is : (b : ℕ) → b < 2139095040 → twiceMiddle b ≡ val (b - 1) + val b
+pub middle-is : (b : ℕ) → b < infBits → twiceMiddle b ≡ val (b - 1) + val b
 unfolding twiceMiddle
 middle-is b h =
     ap (λ (n : ℕ). n + unitsOf (ofBits binary32 b)) (units-bits (b - 1) (omega arith))
     ∙ ap (λ (n : ℕ). val (b - 1) + n) (units-bits b h)
 
-middle-lt : (b c : ℕ) → b < c → c < 2139095040 → twiceMiddle b < twiceMiddle c
+middle-lt : (b c : ℕ) → b < c → c < infBits → twiceMiddle b < twiceMiddle c
 middle-lt b c h l =
     lt-of-le-of-lt (le-of-eq (middle-is b (omega arith)))
     (lt-of-lt-of-le (add-lt-add-of-le-of-lt (val-le (b - 1) (c - 1) (omega arith)) (val-lt b c h))
@@ -54,36 +54,36 @@ module _ (x : Float) (b : ℕ) where
   abbrev tie : Bool
   tie = eqb m n && eqb (b % 2) 0
 
-  pub reached : T (rootAtLeast x b) → (b < 2139095040) × (m ≤ n)
+  pub reached : T (rootAtLeast x b) → (b < infBits) × (m ≤ n)
   unfolding rootAtLeast
   reached t = (
-    ltb→lt b 2139095040 (and-l (ltb b 2139095040) (ltb m n || tie) t),
-    elim (or-cases (ltb m n) tie (and-r (ltb b 2139095040) (ltb m n || tie) t)) [
+    ltb→lt b infBits (and-l (ltb b infBits) (ltb m n || tie) t),
+    elim (or-cases (ltb m n) tie (and-r (ltb b infBits) (ltb m n || tie) t)) [
       | inl u ↦ le-of-lt (ltb→lt m n u)
       | inr u ↦ le-of-eq (eqb→eq m n (and-l (eqb m n) (eqb (b % 2) 0) u))
     ],
   )
 
-  pub reach : b < 2139095040 → m < n → T (rootAtLeast x b)
+  pub reach : b < infBits → m < n → T (rootAtLeast x b)
   unfolding rootAtLeast
-  reach h l = and-i (ltb b 2139095040) (ltb m n || tie) (lt→ltb b 2139095040 h) (or-l (ltb m n) tie (lt→ltb m n l))
+  reach h l = and-i (ltb b infBits) (ltb m n || tie) (lt→ltb b infBits h) (or-l (ltb m n) tie (lt→ltb m n l))
 
   -- on the middle itself it is reached by the even one alone
   pub reached-tie : T (rootAtLeast x b) → m ≡ n → b % 2 ≡ 0
   unfolding rootAtLeast
-  reached-tie t e = elim (or-cases (ltb m n) tie (and-r (ltb b 2139095040) (ltb m n || tie) t)) [
+  reached-tie t e = elim (or-cases (ltb m n) tie (and-r (ltb b infBits) (ltb m n || tie) t)) [
     | inl u ↦ absurd (lt-irrefl n (subst (λ (k : ℕ). k < n) e (ltb→lt m n u)))
     | inr u ↦ eqb→eq (b % 2) 0 (and-r (eqb m n) (eqb (b % 2) 0) u)
   ]
 
-  pub missed : b < 2139095040 → T (not (rootAtLeast x b)) → n ≤ m
+  pub missed : b < infBits → T (not (rootAtLeast x b)) → n ≤ m
   missed h t = le-of-not-lt (λ (l : m < n). T-not (rootAtLeast x b) t (reach h l))
 
-  pub missed-tie : b < 2139095040 → T (not (rootAtLeast x b)) → m ≡ n → b % 2 ≡ 0 → ⊥
+  pub missed-tie : b < infBits → T (not (rootAtLeast x b)) → m ≡ n → b % 2 ≡ 0 → ⊥
   unfolding rootAtLeast
   missed-tie h t e z =
       T-not (rootAtLeast x b) t
-      (and-i (ltb b 2139095040) (ltb m n || tie) (lt→ltb b 2139095040 h)
+      (and-i (ltb b infBits) (ltb m n || tie) (lt→ltb b infBits h)
       (or-r (ltb m n) tie (and-i (eqb m n) (eqb (b % 2) 0) (eq→eqb e) (eq→eqb z))))
 
 -- whatever lies below a pattern that is reached is reached
@@ -117,8 +117,8 @@ search-finds p b yes· no· (suc k) a h l = go (search-finds p b yes· no· k) (
         by false (is-false (p (a + 2 ^ k)) (no· (a + 2 ^ k) (lt-of-not-le f))) ∙ ih a h (lt-of-not-le f)
 
 -- the pattern that is reached, where the next one is not, is the one that the search finds
-pub root-at : (x : Float) (b : ℕ) → T (lt zero32 x) → T (isFinite x) → T (rootAtLeast x b) → T (not (rootAtLeast x (b + 1)))
-    → rootOf x ≡ ofBits binary32 b
+pub root-at : (x : Float) (b : ℕ) → T (lt zero32 x) → T (isFinite x) → T (rootAtLeast x b)
+    → T (not (rootAtLeast x (b + 1))) → rootOf x ≡ ofBits binary32 b
 unfolding rootOf
 root-at x b p f t n =
     ap (λ (c : Bool). cond c (ofBits binary32 (last (rootAtLeast x) 31 0)) zero32)

@@ -12,7 +12,7 @@ use lib.Dec.{T}
 use lib.Ieee.{Float, fin, binary32, lt, fits, ofBits, toBits}
 use lib.Ieee.Bits.{ofBits-fits, ofBits-toBits}
 use lib.Ieee.Exact.{HasValue}
-use Rattle.number.specs.Number.{zero32, isFinite}
+use Rattle.number.specs.Number.{zero32, isFinite, infBits}
 use Rattle.number.specs.Root.{unitsOf, twiceMiddle, twiceRootSquared, rootAtLeast, rootOf}
 use Rattle.number.proofs.Numbers.{square-back}
 use Rattle.number.proofs.Units.{L, plus, shift, fin-false}
@@ -31,7 +31,7 @@ pub record NotNearer (n r y b : ℕ) : Type 0 where
   pub tie : (y ≡ r → ⊥) → (r + y) * (r + y) ≡ n → b % 2 ≡ 0
 
 -- ---- by patterns: b is reached and b + 1 is not
-module _ (x : Float) (b c : ℕ) (B : b < 2139095040) (C : c < 2139095040)
+module _ (x : Float) (b c : ℕ) (B : b < infBits) (C : c < infBits)
     (t : T (rootAtLeast x b)) (f : T (not (rootAtLeast x (b + 1)))) where
   abbrev both : ℕ
   both = val b + val c
@@ -89,11 +89,11 @@ pub record FromZero (y : Float) : Type 0 where
   pub sign : T (plus y)
   pub real : T (isFinite y)
 
-from-lt : (y : Float) → FromZero y → toBits binary32 y < 2139095040
+from-lt : (y : Float) → FromZero y → toBits binary32 y < infBits
 unfolding isFinite
 from-lt y k = go y (k .fit) (k .sign) (k .real)
   where
-    go : (y : Float) → T (fits binary32 y) → T (plus y) → T (isFinite y) → toBits binary32 y < 2139095040
+    go : (y : Float) → T (fits binary32 y) → T (plus y) → T (isFinite y) → toBits binary32 y < infBits
     go (fin false m e) f p h = bits-lt (fin false m e) (m * 2 ^ shift e) f tt (fin-false m e f)
 
 from-units : (y : Float) → FromZero y → val (toBits binary32 y) ≡ unitsOf y
@@ -120,7 +120,7 @@ module _ (x : Float) (f : T (fits binary32 x)) (a : T (lt zero32 x)) (h : T (isF
   abbrev r : Found x
   r = found x f a h
 
-  pub under-top : r .b < 2139095040
+  pub under-top : r .b < infBits
   under-top = let l = bits.bits-lt (r .p) (r .k) (r .b) (r .low) (r .high) (r .short) (r .bits) in omega arith
 
   pub is-root : rootOf x ≡ ofBits binary32 (r .b)
@@ -198,7 +198,7 @@ module _ (x : Float) (f : T (fits binary32 x)) (a : T (lt zero32 x)) (h : T (isF
         let n = twiceRootSquared x in
         let both = val c + val b in
         let C = from-lt s k in
-        let B : b + 1 < 2139095040 = omega arith in
+        let B : b + 1 < infBits = omega arith in
         let t = missed x (b + 1) B past-root in
         let m : twiceMiddle (b + 1) ≡ val b + val (b + 1) =
         middle-is (b + 1) B ∙ ap (λ (k : ℕ). val k + val (b + 1)) (add-sub-cancel b 1) in

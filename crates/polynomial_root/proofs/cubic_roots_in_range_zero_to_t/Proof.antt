@@ -24,7 +24,8 @@ promised : (c0 c1 c2 c3 t epsilon : Float) → fits binary32 c0 ≡ true → {r 
     × (Tidy r × InRange (rangeEnd (cubicOf c0 c1 c2 c3) t) r)
 promised c0 c1 c2 c3 t epsilon f e =
     let p = cubicOf c0 c1 c2 c3 in
-    let h = subst (Holds (λ r. T (between zero32 (rangeEnd p t) r))) (sym e) (cubic-promises p t epsilon (test-true f)) in
+    let all = cubic-promises p t epsilon (test-true f) in
+    let h = subst (Holds (λ r. T (between zero32 (rangeEnd p t) r))) (sym e) all in
     (e, (h .tidy, h .each))
 
 returns : tie.Need-returns

@@ -1,5 +1,5 @@
--- `motion::factors::max_entry` meets its contract: what the columns still to come make of the largest so far is what all
--- four make of zero. Assumes nothing.
+-- `motion::factors::max_entry` meets its contract: what the columns still to come make of the largest so far is what
+-- all four make of zero. Assumes nothing.
 use Prim.Native.Nat.{ℕ, _+_, _-_, _≤_}
 use native.Mathlib.Omega.{arith}
 use mathlib.Core.Path.{_≡_, refl, sym, ap, _∙_}

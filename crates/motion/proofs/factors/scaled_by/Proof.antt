@@ -1,8 +1,8 @@
 -- `motion::factors::scaled_by` meets its contract: the factors of 8 still to come make of the points so far what all of
 -- them make of the points given. Assumes nothing.
-use Prim.Native.Nat.{suc, _-_, _<_}
+use Prim.Native.Nat.{_-_, _<_}
 use native.Mathlib.Omega.{arith}
-use mathlib.Core.Path.{_≡_, sym, ap, _∙_}
+use mathlib.Core.Path.{sym, ap, _∙_}
 use mathlib.Core.List.{List}
 use lib.Ieee.{Float}
 use borrow.Author.Needs.{needs}
@@ -22,7 +22,8 @@ loop-again : tie.Need-loop-again Inv-loop μ-loop
 unfolding eightfold
 loop-again c =
     let l = c .before .before .loop in
-    capped-goes-on eightfold _ _ (l .k) (l .y) (l .inv) (omega arith) _ (λ k. ap (eightfold k) (sym (c .scaled .ensures)))
+    capped-goes-on eightfold _ _ (l .k) (l .y) (l .inv) (omega arith) _
+    (λ k. ap (eightfold k) (sym (c .scaled .ensures)))
 
 returns : tie.Need-returns Inv-loop μ-loop
 unfolding eightfold scaledBy

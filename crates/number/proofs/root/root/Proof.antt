@@ -6,7 +6,7 @@ use native.Mathlib.Omega.{arith}
 use borrow.Author.Needs.{needs}
 use lib.Dec.{T}
 use lib.Ieee.{binary32, fits, lt, toBits}
-use Rattle.number.specs.Number.{zero32}
+use Rattle.number.specs.Number.{zero32, infBits}
 use Rattle.number.specs.RootDigits.{RootBits}
 use Rattle.number.proofs.Patterns.{weight, no-nan-bits}
 use Rattle.number.proofs.NoNan.{no-nan-lt}
@@ -64,7 +64,7 @@ float-from-bits-result c =
     (omega (arith, bits-lt (d * 2 ^ lift d) (24 - lift d) b (u .low) (u .high) (omega arith) (raised-made c)))
 
 -- ---- a normal argument
-normal : (c : tie.After-root-bits2) → bits (c .before .before .before .before) < 2139095040
+normal : (c : tie.After-root-bits2) → bits (c .before .before .before .before) < infBits
 normal c = omega arith
 
 normal-made : (c : tie.After-root-bits2)
@@ -75,7 +75,7 @@ normal-made c =
     subst (λ (p : ℕ). RootBits (b - p) (b / 8388608 + 23) (c .root-bits2 .result)) (same b (normal c))
     (c .root-bits2 .ensures)
   where
-    same : (b : ℕ) → b < 2139095040 → weight b * 8388608 % 4294967296 ≡ weight b * 8388608
+    same : (b : ℕ) → b < infBits → weight b * 8388608 % 4294967296 ≡ weight b * 8388608
     same b h = omega arith
 
 float-from-bits-result-2 : tie.Need-float-from-bits-result-2

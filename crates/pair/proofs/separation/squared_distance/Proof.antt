@@ -8,12 +8,17 @@ use Rattle.distance.specs.Distance.{nearestOf}
 use Rattle.distance.specs.declared.candidate.Nearest.{Nearest}
 use Rattle.pair.specs.declared.separation.Measured.{Measured}
 use Rattle.admission.specs.Admission.{splitRefusal}
-use Rattle.pair.specs.Points.{foundAt, refusedBy, measured}
+use Rattle.pair.specs.Points.{refusedBy, measured}
 use Rattle.number.proofs.Answers.{taken, refused}
 use Rattle.pair.proofs.separation.squared_distance.Statement.{statement}
 use Rattle.pair.proofs.separation.squared_distance.Tie as tie
 
 module _ (x : List (List Float)) (split : ℕ) (n : ℕ) (e : n ≡ splitRefusal x split) where
+  abbrev found : Measured
+  found =
+      let near = nearestOf split x in
+      record { refusal = 0; squared = near .squared; direction = near .direction; candidate = near .candidate }
+
   by-distance : (f : Nearest) → n ≡ 0 → f ≡ nearestOf split x
       → _≡_ {A = Measured}
       (record { refusal = n; squared = f .squared; direction = f .direction; candidate = f .candidate })
@@ -26,13 +31,13 @@ module _ (x : List (List Float)) (split : ℕ) (n : ℕ) (e : n ≡ splitRefusal
         direction = h i .direction;
         candidate = h i .candidate;
       })
-      ∙ taken (foundAt x split) (refusedBy (splitRefusal x split)) (splitRefusal x split) n e z
+      ∙ taken found (refusedBy (splitRefusal x split)) (splitRefusal x split) n e z
 
   by-refusal : (n ≡ 0 → ⊥) → refusedBy n ≡ measured x split
   unfolding measured
   by-refusal z =
       (λ i. refusedBy (e i))
-      ∙ refused (foundAt x split) (refusedBy (splitRefusal x split)) (splitRefusal x split) n e z
+      ∙ refused found (refusedBy (splitRefusal x split)) (splitRefusal x split) n e z
 
 returns : tie.Need-returns
 returns c =
