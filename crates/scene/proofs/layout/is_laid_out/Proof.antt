@@ -1,4 +1,4 @@
--- `scene::layout::is_laid_out` meets its contract. Assumes nothing. 
+-- `scene::layout::is_laid_out` meets its contract. Assumes nothing.
 use borrow.Author.Needs.{needs}
 use Rattle.scene.specs.Scene.{laidOut}
 use Rattle.scene.proofs.layout.is_laid_out.Statement.{statement}

@@ -1,4 +1,4 @@
--- `scene::layout::is_pair` meets its contract. Assumes nothing. 
+-- `scene::layout::is_pair` meets its contract. Assumes nothing.
 use borrow.Author.Needs.{needs}
 use Rattle.scene.specs.Scene.{isPair}
 use Rattle.scene.proofs.layout.is_pair.Statement.{statement}

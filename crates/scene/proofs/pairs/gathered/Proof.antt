@@ -1,4 +1,4 @@
--- `scene::pairs::gathered` meets its contract. Assumes nothing. 
+-- `scene::pairs::gathered` meets its contract. Assumes nothing.
 use borrow.Author.Needs.{needs}
 use Rattle.scene.specs.Scene.{gathered}
 use Rattle.scene.proofs.pairs.gathered.Statement.{statement}

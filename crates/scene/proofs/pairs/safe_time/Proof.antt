@@ -1,4 +1,4 @@
--- `scene::pairs::safe_time` meets its contract: the pair's own safe time and its promises, of what the file has. 
+-- `scene::pairs::safe_time` meets its contract: the pair's own safe time and its promises, of what the file has.
 -- Assumes nothing.
 use borrow.Author.Needs.{needs}
 use Rattle.scene.specs.Scene.{safeTimeAt}
