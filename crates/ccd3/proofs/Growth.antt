@@ -1,9 +1,9 @@
 -- Times only grow: where the plain step is not below zero no step is, and the time after such a step is not before this
--- one, and no NaN (specs/Step.antt). Assumes nothing.
+-- one, and no NaN (specs/SafeTime.antt). Assumes nothing.
 use mathlib.Core.Bool.{Bool, true, false, cond}
 use mathlib.Core.List.{List, [], _∷_}
 use Prim.Native.Nat.{ℕ}
-use lib.Dec.{T}
+use lib.Dec.{eqb, T}
 use lib.Ieee.{Float, nan, inf, fin, binary32, lt, le, fits}
 use lib.Ieee.Fits.{add-fits, mul-fits, div-fits}
 use lib.Ieee.Bits.{ofBits-fits}
@@ -18,7 +18,7 @@ use Rattle.number.proofs.Within.{Within}
 use Rattle.geometry.specs.Geometry.{Cross, crossPairs}
 use Rattle.admission.specs.declared.Limits.{Limits}
 use Rattle.ccd3.specs.declared.Aim.{Aim}
-use Rattle.ccd3.specs.Step.{timeToPark, leftOf, speedOf, stops, leastOver, twoOrThree, directional, park, dip, plain, aim, Visit, Step, stepFrom, next}
+use Rattle.ccd3.specs.SafeTime.{timeToPark, leftOf, speedOf, stops, leastOver, directional, park, dip, plain, aim, Visit, Step, stepFrom, next}
 
 -- a squared distance that a walk can compute with: an f32 with the sign plus, and not too large
 pub record Sound (d : Float) : Type 0 where
@@ -68,7 +68,7 @@ module _ (x dx : List (List Float)) (a : Aim) where
   directional-fits : (split : ℕ) → F (directional x dx split a .length)
   unfolding directional
   directional-fits split =
-      least-fits (crossPairs (twoOrThree split)) largest32 (ofBits-fits binary32 0x7f7f_ffff)
+      least-fits (crossPairs (cond (eqb split 2) 2 3)) largest32 (ofBits-fits binary32 0x7f7f_ffff)
 
 -- ---- the step, and the next time
 module _ (dx : List (List Float)) (split : ℕ) (l : Limits) (v : Visit) where

@@ -21,8 +21,7 @@ use Rattle.number.proofs.Units.Compared.{Is, finite-is, eq-is, lt-says, says-lt
 use Rattle.admission.specs.declared.Limits.{Limits}
 use Rattle.ccd3.specs.declared.Answer.{Answer}
 use Rattle.ccd3.specs.declared.Answer.the-variants.{Touching, Contact, Clear, Budget, Refused}
-use Rattle.ccd3.specs.Step.{Visit, next}
-use Rattle.ccd3.specs.SafeTime.{Walked, visit, above, closing, walk, InTime, Every, Rising, Stopped}
+use Rattle.ccd3.specs.SafeTime.{Visit, next, Walked, visit, above, closing, walk, InTime, Every, Rising, Stopped}
 use Rattle.ccd3.proofs.WalkLaws.{walk-clears, walk-spends, walk-meets, walk-steps}
 use Rattle.ccd3.proofs.Bracket.{Timely, timely-refl, Bracket, bracket-ends}
 use Rattle.ccd3.proofs.Growth.{above-plus}

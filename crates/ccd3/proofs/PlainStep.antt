@@ -1,5 +1,5 @@
 -- The plain step from a squared distance above the computed square of park is not below zero: its root is not below dip
--- (specs/Step.antt). Assumes nothing.
+-- (specs/SafeTime.antt). Assumes nothing.
 use mathlib.Core.Path.{_≡_, refl, sym, _∙_, subst}
 use mathlib.Core.Bool.{true, false}
 use Prim.Native.Nat.{ℕ, _+_, _-_, _*_, _^_, _≤_, _<_, zero, suc, zero-le}
@@ -18,7 +18,7 @@ use Rattle.number.proofs.Sums.Rounded.{add-opens, sum-ff, sum-ft}
 use Rattle.number.proofs.Units.{Unit32, plus, of-float}
 use Rattle.number.proofs.Units.Compared.{L, Is, left, right, lt-says, says-lt, le-says}
 use Rattle.admission.specs.declared.Limits.{Limits}
-use Rattle.ccd3.specs.Step.{park, dip, plain}
+use Rattle.ccd3.specs.SafeTime.{park, dip, plain}
 use lib.Ieee.Positive.{positive}
 use lib.Ieee.Scale.{finite}
 use Rattle.number.specs.Root.{rootOf}

@@ -13,7 +13,7 @@ use Rattle.admission.specs.declared.Limits.{Limits}
 use Rattle.admission.proofs.Admitted.{Walkable, walk-admits}
 use Rattle.ccd3.specs.declared.Answer.{Answer}
 use Rattle.ccd3.specs.declared.Answer.the-variants.{Touching, Contact, Clear, Budget, Refused}
-use Rattle.ccd3.specs.SafeTime.{numbersOf, Walked, start, threshold, allowance, still, firstSquared, touches, between, safeRefusal, safeWalk, safeTimeOf, InTime, Every, Rising, isFar, Touched, Stopped, Passed, Paused, Promised, Promises}
+use Rattle.ccd3.specs.SafeTime.{numbersOf, Walked, start, threshold, allowance, still, firstSquared, touches, between, safeRefusal, safeWalk, safeTimeOf, InTime, Every, Rising, isFar, Stopped, Passed, Promised, Promises}
 use Rattle.ccd3.proofs.StartLaws.{walked, number-none, safe-refused, safe-touches, safe-walks}
 use Rattle.ccd3.proofs.Standing.{zero-timely, Ground, limit-from, start-number, number-at, start-stands}
 use Rattle.ccd3.proofs.Kept.{Says, Kept, in-time, clear-in-time, walk-keeps}
@@ -35,7 +35,7 @@ module _ (x₀ dx : List (List Float)) (split : ℕ) (l : Limits) (allowed : ℕ
     halvings-counted = sym (ap (λ (w : Walked). w .ending .halvings) is);
     few-probes = zero-le;
     few-halvings = zero-le;
-    refused = λ h. record { is-kind = refl; no-time = refl; no-probes = refl; no-halvings = refl };
+    refused = λ h. (refl, refl, refl, refl);
     answered = λ h. absurd (omega arith);
     timed = λ h. absurd (omega arith);
     steady = λ h. absurd (omega arith);
@@ -53,8 +53,8 @@ module _ (x₀ dx : List (List Float)) (split : ℕ) (l : Limits) (allowed : ℕ
     module _ (w : Walked) (is : safeWalk x₀ dx split l allowed ≡ w) (few : length (w .probed) ≤ allowed)
         (halves : w .ending .halvings ≤ 256) (rises : Rising l zero32 (w .probed)) where
       unrefused : (kind : ℕ) (t : Float) → kind ≤ 3 → InTime l t
-          → (kind ≡ 0 → Touched x₀ dx split l allowed t) → (kind ≡ 1 → Stopped (isFar x₀ dx split l allowed) l t)
-          → (kind ≡ 2 → Passed x₀ dx split l allowed t) → (kind ≡ 3 → Paused x₀ dx split l allowed t (length (w .probed)))
+          → (kind ≡ 0 → (t ≡ zero32) × (touches x₀ dx split l ≡ true)) → (kind ≡ 1 → Stopped (isFar x₀ dx split l allowed) l t)
+          → (kind ≡ 2 → Passed x₀ dx split l allowed t) → (kind ≡ 3 → (isFar x₀ dx split l allowed t ≡ true) × (length (w .probed) ≡ allowed))
           → Promised x₀ dx split l allowed 0 kind t (length (w .probed)) (w .ending .halvings)
       unfolding firstSquared
       unrefused kind t small i touched stopped passed paused = record {
@@ -83,7 +83,7 @@ module _ (x₀ dx : List (List Float)) (split : ℕ) (l : Limits) (allowed : ℕ
     touching-keeps t is =
         unrefused (still (Touching zero32)) is zero-le zero-le tt 0 zero32 zero-le
         (in-time x₀ dx split l g zero32 zero-timely (limit-from x₀ dx split l g))
-        (λ n. record { is-zero = refl; close = t }) (λ n. absurd (omega arith)) (λ n. absurd (omega arith))
+        (λ n. (refl, t)) (λ n. absurd (omega arith)) (λ n. absurd (omega arith))
         (λ n. absurd (omega arith))
 
     -- a walk, by its answer
@@ -124,7 +124,7 @@ module _ (x₀ dx : List (List Float)) (split : ℕ) (l : Limits) (allowed : ℕ
       by-answer (Budget u) h =
           unrefused w is (kept .probes) (kept .halvings) (kept .rising) 3 u (lit≤ tt) (h .0)
           (λ n. absurd (omega arith)) (λ n. absurd (omega arith)) (λ n. absurd (omega arith))
-          (λ n. record { far = h .1; all-made = h .2 })
+          (λ n. (h .1, h .2))
 
       walk-promised : Keeps w
       walk-promised = by-answer (w .ending .answer) (kept .says)

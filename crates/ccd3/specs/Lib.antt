@@ -1,4 +1,3 @@
 -- What the contracts of `ccd3` cite. Definitions only.
-pub mod Step
 pub mod SafeTime
 pub mod Inner

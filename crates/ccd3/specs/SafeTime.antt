@@ -1,19 +1,132 @@
 -- The safe time of a pair, refused ones too: the walk from a start that is apart, with steps that are safe by the
--- distance, a probe at the end of each, and a halving once a probe is not apart any more (docs/01-scope.md, "The walk",
--- "Refusal numbers"); and what every answer promises (docs/GUARANTEES.md). Definitions only.
+-- distance, a probe at the end of each, and a halving once a probe is not apart any more (docs/01-scope.md, "The
+-- directional step", "The walk", "Refusal numbers"); and what every answer promises (docs/GUARANTEES.md). Definitions only.
 use Prim.Native.Nat.{ℕ, zero, suc, _≤_}
-use mathlib.Core.{Path._≡_, Bool.Bool, Bool.true, Bool.false, Bool.cond, Bool._&&_, Bool._||_, Bool.not}
+use mathlib.Core.{Path._≡_, Option.Option, Option.none, Option.some}
+use mathlib.Core.Bool.{Bool, true, false, cond, _&&_, _||_, not}
 use mathlib.Core.List.{List, [], _∷_}
-use lib.{Dec.T, ListN.length}
-use lib.Ieee.{Float, lt, le, eq, isNan}
-use Rattle.number.specs.{Number.zero32, Number.written, Number._⊗_, Number.nextUp, Halving.Halved, Halving.halve}
-use Rattle.geometry.specs.Geometry.{moved}
-use Rattle.distance.specs.Distance.{nearestOf}
+use lib.{Dec.T, Dec.eqb, ListN.length}
+use lib.Ieee.{Float, binary32, lt, le, eq, isNan, ofBits}
+use Rattle.number.specs.Number.{_⊕_, _⊖_, _⊗_, _⊘_, zero32, half32, one32, largest32, size, smaller, larger, written, nextUp}
+use Rattle.number.specs.{Root.rootOf, Halving.Halved, Halving.halve}
+use Rattle.geometry.specs.Geometry.{at, col, vec, minus, dot, moved, Cross, crossPairs}
+use Rattle.distance.specs.{declared.candidate.Nearest.Nearest, Distance.nearestOf}
 use Rattle.admission.specs.{declared.Limits.Limits, Admission.walkRefusal}
-use Rattle.ccd3.specs.declared.{Answer.Answer, SafeTime.SafeTime, Ending.Ending}
+use Rattle.ccd3.specs.declared.{Aim.Aim, Answer.Answer, SafeTime.SafeTime, Ending.Ending}
 use Rattle.ccd3.specs.declared.Answer.the-variants.{Touching, Contact, Clear, Budget, Refused}
-use Rattle.ccd3.specs.Step.{Visit, stepFrom, next, park}
 
+-- ---- the directional step: how far the pair may move before some column of the first side can come near some column
+-- of the second along the direction w
+abbrev pub rel : List (List Float) → Cross → List Float
+rel dx p = minus (col dx (p .first)) (col dx (p .second))
+
+abbrev pub sizes : List Float → List Float
+sizes v = vec (size (at v 0)) (size (at v 1)) (size (at v 2))
+
+module _ (a : Aim) where
+  -- a gap along w, less what rounding may have added to it: 2 ^ -22 is the slack for rounding, 6.2e-7 for coordinates
+  unfoldable pub projected : List Float → List Float → Float
+  projected g r =
+      dot (a .w) g
+      ⊖ (ofBits binary32 0x3480_0000
+      ⊗ (dot (sizes (a .w)) (sizes g) ⊕ a .«max_t» ⊗ dot (sizes (a .w)) (sizes r) ⊕ a .park ⊗ a .norm)
+      ⊕ ofBits binary32 0x3526_6e13 ⊗ a .norm)
+
+  -- the time in which a pair at this projected gap comes to park, at this speed
+  unfoldable pub timeToPark : Float → Float → Float
+  timeToPark left speed = larger (left ⊖ a .park ⊗ a .norm) zero32 ⊘ speed
+
+  module _ (x dx : List (List Float)) where
+    -- what is left of a pair's gap, and how fast the pair closes in
+    abbrev pub leftOf : Cross → Float
+    leftOf p = projected (minus (col x (p .second)) (col x (p .first))) (rel dx p)
+
+    abbrev pub speedOf : Cross → Float
+    speedOf p = dot (a .w) (rel dx p)
+
+    -- a pair that is not beyond dip
+    abbrev pub stops : Cross → Bool
+    stops p = le (leftOf p) (a .dip ⊗ a .norm)
+
+    -- the least time over pairs that close in; the first pair that is not beyond dip ends it all with 0
+    unfoldable pub leastOver : List Cross → Float → Float
+    leastOver [] least = least
+    leastOver (p ∷ rest) least =
+        cond (stops p) zero32
+        (leastOver rest (cond (lt zero32 (speedOf p)) (smaller least (timeToPark (leftOf p) (speedOf p))) least))
+
+    -- a pair that closes in to park in the time t
+    abbrev pub takes : Float → Cross → Bool
+    takes t p = lt zero32 (speedOf p) && eq (timeToPark (leftOf p) (speedOf p)) t
+
+-- the first pair that passes a test
+unfoldable pub firstOf : (Cross → Bool) → List Cross → Option Cross
+firstOf test [] = none
+firstOf test (p ∷ rest) = cond (test p) (some p) (firstOf test rest)
+
+-- a directional step: its length, and the pair that set it: the one that ended it all, else the first of the least time;
+-- none where no time is finite
+pub record Advance : Type 0 where
+  pub length : Float
+  pub by : Option Cross
+
+-- over the split as the distance rules take it: 2, and any other as 3
+unfoldable pub directional : List (List Float) → List (List Float) → ℕ → Aim → Advance
+unfolding crossPairs leastOver
+directional x dx split a =
+    let pairs = crossPairs (cond (eqb split 2) 2 3) in
+    let least = leastOver a x dx pairs largest32 in
+    record {
+      length = least;
+      by = elim (firstOf (stops a x dx) pairs) [ none ↦ firstOf (takes a x dx least) pairs | some p ↦ some p ];
+    }
+
+-- ---- the step
+abbrev pub park : Limits → Float
+park l = l .offset ⊕ l .clearance
+
+abbrev pub dip : Limits → Float
+dip l = l .offset ⊕ l .clearance ⊗ half32
+
+-- where a walk is: a time, the points there, and what the distance rules say of them
+pub record Visit : Type 0 where
+  pub time : Float
+  pub points : List (List Float)
+  pub near : Nearest
+
+-- safe whatever the direction: what the distance leaves above dip, at the greatest speed
+abbrev pub plain : Limits → Float → Float
+plain l distance = (distance ⊖ dip l) ⊗ (one32 ⊘ l .«u_max»)
+
+-- along the direction of the distance; its norm is 1 + 2 ^ -22 times the distance
+abbrev pub aim : Limits → Nearest → Aim
+aim l near = record {
+  w = near .direction;
+  norm = rootOf (near .squared) ⊗ ofBits binary32 0x3f80_0002;
+  dip = dip l;
+  park = park l;
+  «max_t» = l .«max_t»;
+}
+
+-- a step: its length, whether the directional one was tried, and whether that was the longer
+pub record Step : Type 0 where
+  pub length : Float
+  pub tried : Bool
+  pub directed : Bool
+
+-- the directional step is tried only where the plain one ends within the time limit
+unfoldable pub stepFrom : List (List Float) → ℕ → Limits → Visit → Step
+stepFrom dx split l v =
+    let p = plain l (rootOf (v .near .squared)) in
+    let d = directional (v .points) dx split (aim l (v .near)) .length in
+    cond (le (v .time ⊕ p) (l .«max_t»)) (record { length = larger p d; tried = true; directed = lt p d })
+    (record { length = p; tried = false; directed = false })
+
+-- the time after the step
+abbrev pub next : List (List Float) → ℕ → Limits → Visit → Float
+next dx split l v = v .time ⊕ stepFrom dx split l v .length
+
+-- ---- the walk
 -- an answer in numbers: the refusal, 0 for none; the kind; the time, zero with a refusal
 unfoldable pub numbersOf : Answer → ℕ × ℕ × Float
 numbersOf (Touching t) = (0, 0, t)
@@ -22,7 +135,6 @@ numbersOf (Clear t) = (0, 2, t)
 numbersOf (Budget t) = (0, 3, t)
 numbersOf (Refused n) = (n, 4, zero32)
 
--- ---- the walk
 module _ (x₀ dx : List (List Float)) (split : ℕ) where
   -- the start is where the points are handed over
   abbrev pub start : Visit
@@ -158,13 +270,6 @@ unfoldable pub Rising : Limits → Float → List Float → Type 0
 Rising l t [] = Unit
 Rising l t (u ∷ us) = T (le t u) × InTime l u × Rising l u us
 
--- a refused call: kind 4, no time, zero counts
-pub record Refusal (kind : ℕ) (time : Float) (probes halvings : ℕ) : Type 0 where
-  pub is-kind : kind ≡ 4
-  pub no-time : time ≡ zero32
-  pub no-probes : probes ≡ 0
-  pub no-halvings : halvings ≡ 0
-
 -- contact: far at the time, and at the next f32 time, within the limit, not far
 pub record Stopped (isFar : Float → Bool) (l : Limits) (t : Float) : Type 0 where
   pub far : isFar t ≡ true
@@ -187,37 +292,29 @@ module _ (x₀ dx : List (List Float)) (split : ℕ) (l : Limits) (allowed : ℕ
     pub number-at : (t : Float) → T (le zero32 t) → T (le t (l .«max_t»))
         → T (not (isNan (squaredAt x₀ dx split t)))
 
-  -- touching: at the start it is at most the squared offset, or just the squared park distance
-  pub record Touched (t : Float) : Type 0 where
-    pub is-zero : t ≡ zero32
-    pub close : touches x₀ dx split l ≡ true
-
   -- clear: it exceeded it at the start and at every probe made
   pub record Passed (t : Float) : Type 0 where
     pub is-limit : t ≡ written (l .«max_t»)
     pub start-far : lt (threshold l) (firstSquared x₀ dx split l) ≡ true
     pub probes-far : Every (λ (u : Float). isFar u ≡ true) probed
 
-  -- budget: it exceeds it at the time, and every probe allowed was made
-  pub record Paused (t : Float) (probes : ℕ) : Type 0 where
-    pub far : isFar t ≡ true
-    pub all-made : probes ≡ allowed
-
-  -- the numbers of an answer; kinds are 0 touching, 1 contact, 2 clear, 3 budget, 4 refused
+  -- the numbers of an answer; kinds are 0 touching, 1 contact, 2 clear, 3 budget, 4 refused. A refused call has no time and
+  -- zero counts. Touching: at the start it is at most the squared offset, or just the squared park distance. Budget: it
+  -- exceeds the threshold at the time, and every probe allowed was made.
   pub record Promised (refusal kind : ℕ) (time : Float) (probes halvings : ℕ) : Type 0 where
     pub number : refusal ≡ safeRefusal x₀ dx split l
     pub probes-counted : probes ≡ length probed
     pub halvings-counted : halvings ≡ safeWalk x₀ dx split l allowed .ending .halvings
     pub few-probes : probes ≤ allowed
     pub few-halvings : halvings ≤ 256
-    pub refused : (refusal ≡ 0 → ⊥) → Refusal kind time probes halvings
+    pub refused : (refusal ≡ 0 → ⊥) → (kind ≡ 4) × (time ≡ zero32) × (probes ≡ 0) × (halvings ≡ 0)
     pub answered : refusal ≡ 0 → kind ≤ 3
     pub timed : refusal ≡ 0 → InTime l time
     pub steady : refusal ≡ 0 → Steady
-    pub touching : kind ≡ 0 → Touched time
+    pub touching : kind ≡ 0 → (time ≡ zero32) × (touches x₀ dx split l ≡ true)
     pub contact : kind ≡ 1 → Stopped isFar l time
     pub clear : kind ≡ 2 → Passed time
-    pub budget : kind ≡ 3 → Paused time probes
+    pub budget : kind ≡ 3 → (isFar time ≡ true) × (probes ≡ allowed)
 
 -- of an answer as the library gives it
 abbrev pub Promises : List (List Float) → List (List Float) → ℕ → Limits → SafeTime → Type 0

@@ -13,8 +13,7 @@ use Rattle.distance.specs.declared.candidate.Nearest.{Nearest}
 use Rattle.ccd3.specs.declared.Ending.{Ending}
 use Rattle.ccd3.specs.declared.Counted.{Counted}
 use Rattle.ccd3.specs.declared.Answer.the-variants.{Clear}
-use Rattle.ccd3.specs.Step.{Visit}
-use Rattle.ccd3.specs.SafeTime.{squaredAt, above, visit, unbracketed, walk}
+use Rattle.ccd3.specs.SafeTime.{Visit, squaredAt, above, visit, unbracketed, walk}
 use Rattle.ccd3.specs.Inner.{counted}
 use Rattle.ccd3.proofs.WalkLoop.{walkFrom, clears, spends, meets, steps}
 use Rattle.ccd3.proofs.walk.walk.Statement.{statement}
