@@ -20,8 +20,8 @@ fn put_counted(out: &mut [u8], word: &[u8], n: u32) -> usize
     ensures { λ r. ⌜ Put (now (out .entry)) 0 (Def.counted (now (word .entry)) n) (now (out .exit)) r × (r ≤ 25) ⌝ }
 {
     let a = put_bytes(out, 0, word);
-    let b = put_decimal(out, a, n);
-    put_bytes(out, b, b"\n")
+    let b = put_decimal(out, a as u32, n);
+    put_bytes(out, b as u32, b"\n")
 }
 
 // The first line and the lines of the pairs.
@@ -33,7 +33,7 @@ fn put_pairs(s: &[u8], pairs: u32, out: &mut [u8]) -> usize
     let mut at = put_counted(out, b"pairs ", pairs);
     let mut i: u32 = 0;
     while i < pairs {
-        at = put_line(out, at, i, safe_time(s, i));
+        at = put_line(out, at as u32, i, safe_time(s, i));
         i += 1;
     }
     at

@@ -21,35 +21,34 @@ fn bits_of(t: f32) -> u32
     f32::to_bits(t)
 }
 
-fn put_bits(out: &mut [u8], at: usize, t: f32) -> usize
-    requires { ⌜ at < 0x1_0000_0000 ⌝ }
+fn put_bits(out: &mut [u8], at: u32, t: f32) -> usize
     ensures { λ r. ⌜ Put (now (out .entry)) at (hex (toBits binary32 t)) (now (out .exit)) r × (r ≤ at + 8) ⌝ }
 {
     put_hex(out, at, bits_of(t))
 }
 
-fn put_spaced(out: &mut [u8], at: usize, n: u32) -> usize
+fn put_spaced(out: &mut [u8], at: u32, n: u32) -> usize
     requires { ⌜ at < 0x8000_0000 ⌝ }
     ensures { λ r. ⌜ Put (now (out .entry)) at (Def.spaced n) (now (out .exit)) r × (r ≤ at + 11) ⌝ }
 {
     let a = put_bytes(out, at, b" ");
-    put_decimal(out, a, n)
+    put_decimal(out, a as u32, n)
 }
 
 // The word of a kind, the time's bits and the two counts.
-fn put_timed(out: &mut [u8], at: usize, kind: &[u8], t: f32, safe: SafeTime) -> usize
+fn put_timed(out: &mut [u8], at: u32, kind: &[u8], t: f32, safe: SafeTime) -> usize
     requires { ⌜ (at < 0x7fff_0000) × (length (now kind) ≤ 10) ⌝ }
     ensures { λ r. ⌜ Put (now (out .entry)) at (Def.timed (now (kind .entry)) t safe) (now (out .exit)) r
         × (r ≤ at + 40) ⌝ }
 {
     let a = put_bytes(out, at, kind);
-    let b = put_bits(out, a, t);
-    let c = put_spaced(out, b, safe.probes);
-    put_spaced(out, c, safe.halvings)
+    let b = put_bits(out, a as u32, t);
+    let c = put_spaced(out, b as u32, safe.probes);
+    put_spaced(out, c as u32, safe.halvings)
 }
 
 // How a pair ends: a time of its kind, or a refusal.
-fn put_ending(out: &mut [u8], at: usize, safe: SafeTime) -> usize
+fn put_ending(out: &mut [u8], at: u32, safe: SafeTime) -> usize
     requires { ⌜ at < 0x7fff_0000 ⌝ }
     ensures { λ r. ⌜ Put (now (out .entry)) at (Def.ending (safe .answer) safe) (now (out .exit)) r
         × (r ≤ at + 40) ⌝ }
@@ -62,17 +61,17 @@ fn put_ending(out: &mut [u8], at: usize, safe: SafeTime) -> usize
         Answer::Budget(t) => put_timed(out, at, b" budget ", t, safe),
         Answer::Refused(n) => {
             let a = put_bytes(out, at, b" refused ");
-            put_decimal(out, a, n)
+            put_decimal(out, a as u32, n)
         }
     }
 }
 
 // The line of pair `index`, whose safe time this is.
-pub(crate) fn put_line(out: &mut [u8], at: usize, index: u32, safe: SafeTime) -> usize
+pub(crate) fn put_line(out: &mut [u8], at: u32, index: u32, safe: SafeTime) -> usize
     requires { ⌜ at < 0x4000_0000 ⌝ }
     ensures { λ r. ⌜ Put (now (out .entry)) at (Def.line index safe) (now (out .exit)) r × (r ≤ at + 51) ⌝ }
 {
     let a = put_decimal(out, at, index);
-    let b = put_ending(out, a, safe);
-    put_bytes(out, b, b"\n")
+    let b = put_ending(out, a as u32, safe);
+    put_bytes(out, b as u32, b"\n")
 }

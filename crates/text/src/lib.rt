@@ -2,12 +2,11 @@
 // the buffer's end is counted and not written.
 ghost use mathlib.Core.List.{[], _∷_};
 ghost use Prim.Native.Nat.{_<_, _≤_, _+_};
-ghost use lib.ListN.{length};
 ghost use Rattle.text.specs.Text.{Put};
 ghost use Rattle.text.specs.Text as Def;
 
 fn put_byte(out: &mut [u8], at: usize, b: u8) -> usize
-    requires { ⌜ at < 0x2_0000_0000 ⌝ }
+    requires { ⌜ at + 1 < 0x1_0000_0000_0000_0000 ⌝ }
     ensures { λ r. ⌜ Put (now (out .entry)) at (b ∷ []) (now (out .exit)) r ⌝ }
 {
     if at < out.len() {
@@ -16,11 +15,10 @@ fn put_byte(out: &mut [u8], at: usize, b: u8) -> usize
     at + 1
 }
 
-pub fn put_bytes(out: &mut [u8], at: usize, text: &[u8]) -> usize
-    requires { ⌜ (at < 0x1_0000_0000) × (length (now text) < 0x1_0000_0000) ⌝ }
+pub fn put_bytes(out: &mut [u8], at: u32, text: &[u8]) -> usize
     ensures { λ r. ⌜ Put (now (out .entry)) at (now (text .entry)) (now (out .exit)) r ⌝ }
 {
-    let mut to = at;
+    let mut to = at as usize;
     let mut i = 0;
     while i < text.len() {
         to = put_byte(out, to, text[i]);
@@ -30,8 +28,7 @@ pub fn put_bytes(out: &mut [u8], at: usize, text: &[u8]) -> usize
 }
 
 // The decimal digits of n, none of them a zero in front.
-pub fn put_decimal(out: &mut [u8], at: usize, n: u32) -> usize
-    requires { ⌜ at < 0x1_0000_0000 ⌝ }
+pub fn put_decimal(out: &mut [u8], at: u32, n: u32) -> usize
     ensures { λ r. ⌜ Put (now (out .entry)) at (Def.decimal n) (now (out .exit)) r × (r ≤ at + 10) ⌝ }
 {
     let mut digits = [0u8; 20];
@@ -40,8 +37,7 @@ pub fn put_decimal(out: &mut [u8], at: usize, n: u32) -> usize
 }
 
 // The eight hexadecimal digits of n, in lower case.
-pub fn put_hex(out: &mut [u8], at: usize, n: u32) -> usize
-    requires { ⌜ at < 0x1_0000_0000 ⌝ }
+pub fn put_hex(out: &mut [u8], at: u32, n: u32) -> usize
     ensures { λ r. ⌜ Put (now (out .entry)) at (Def.hex n) (now (out .exit)) r × (r ≤ at + 8) ⌝ }
 {
     let mut digits = [0u8; 16];

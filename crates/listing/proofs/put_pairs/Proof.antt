@@ -48,4 +48,4 @@ pub put-pairs-spec : {M : Type 1} → statement M
 put-pairs-spec =
     tie.close
     (tie.spec Inv-loop μ-loop (search needs) (search needs) loop-holds (search needs) (search needs) (search needs)
-    (search needs) loop-again (λ c. keeps-length (all c)) (λ c. (all c, search needs)))
+    (search needs) (search needs) loop-again (λ c. keeps-length (all c)) (λ c. (all c, search needs)))

@@ -12,9 +12,6 @@ use Rattle.text.proofs.put_decimal.Tie as tie
 few : (c : tie.After-decimal) → c .decimal .result ≤ 10
 few c = decimal-few (c .before .before .before .args .n) (c .decimal .result) (search needs) (c .decimal .ensures .1 .0)
 
-put-bytes-requires : tie.Need-put-bytes-requires
-put-bytes-requires c κs = let short = few (c .before .before) in search needs
-
 returns : tie.Need-returns
 unfolding decimal
 returns c =
@@ -30,4 +27,4 @@ returns c =
 pub put-decimal-spec : {M : Type 1} → statement M
 put-decimal-spec =
     tie.close
-    (tie.spec (search needs) (search needs) (search needs) put-bytes-requires (search needs) returns)
+    (tie.spec (search needs) (search needs) (search needs) (search needs) (search needs) returns)

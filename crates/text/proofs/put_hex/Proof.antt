@@ -12,9 +12,6 @@ use Rattle.text.proofs.put_hex.Tie as tie
 eight : (c : tie.After-hex) → c .hex .result ≡ 8
 eight c = hex-eight (c .before .before .before .args .n) (c .hex .result) (search needs) (c .hex .ensures .1 .0)
 
-put-bytes-requires : tie.Need-put-bytes-requires
-put-bytes-requires c κs = let short = eight (c .before .before) in search needs
-
 returns : tie.Need-returns
 unfolding hex
 returns c =
@@ -29,4 +26,4 @@ returns c =
 pub put-hex-spec : {M : Type 1} → statement M
 put-hex-spec =
     tie.close
-    (tie.spec (search needs) (search needs) (search needs) put-bytes-requires (search needs) returns)
+    (tie.spec (search needs) (search needs) (search needs) (search needs) (search needs) returns)

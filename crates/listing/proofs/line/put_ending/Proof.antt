@@ -38,7 +38,7 @@ returns-5 c =
 pub put-ending-spec : {M : Type 1} → statement M
 put-ending-spec =
     tie.close
-    (tie.spec (search needs) (search needs) (search needs) (search needs) (search needs) (search needs) (search needs)
+    (tie.spec (search needs) (search needs) (search needs) (search needs) (search needs) (search needs) (search needs) (search needs)
     (search needs) (search needs) (search needs) (search needs) (search needs) (search needs) (search needs)
     (search needs) (search needs) (search needs) returns (search needs) returns-2 (search needs) returns-3
     (search needs) returns-4 (search needs) returns-5)

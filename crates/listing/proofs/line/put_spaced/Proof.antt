@@ -8,4 +8,4 @@ returns : tie.Need-returns
 returns c = (search (and-then), search needs)
 
 pub put-spaced-spec : {M : Type 1} → statement M
-put-spaced-spec = tie.close (tie.spec (search needs) (search needs) (search needs) (search needs) returns)
+put-spaced-spec = tie.close (tie.spec (search needs) (search needs) (search needs) (search needs) (search needs) returns)

@@ -22,4 +22,4 @@ returns c =
 pub put-timed-spec : {M : Type 1} → statement M
 put-timed-spec =
     tie.close
-    (tie.spec (search needs) (search needs) (search needs) (search needs) (search needs) returns)
+    (tie.spec (search needs) (search needs) (search needs) (search needs) (search needs) (search needs) (search needs) (search needs) returns)
