@@ -27,7 +27,7 @@ pub(crate) fn slope_at(p: Cubic, r: f32) -> f32
 // How many steps at most.
 const NEWTON_STEPS: u32 = 20;
 
-// At most so many steps from r, held to 0..t, until the value's size is below epsilon.
+// At most so many steps from the guess, held to 0..t, until the value's size is below epsilon.
 pub(crate) fn descend(p: Cubic, t: f32, epsilon: f32, guess: f32) -> Found
     ensures { λ f. ⌜ f ≡ Def.descend p t epsilon Def.newtonSteps guess ⌝ }
 {
