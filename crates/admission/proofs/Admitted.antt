@@ -18,7 +18,9 @@ use Rattle.number.proofs.Ranges.{in-bound, zero-to-bound, zero-to-one, speed-ra
 use Rattle.geometry.proofs.Bounds.{Each}
 use Rattle.geometry.specs.Geometry.{at, col}
 use Rattle.admission.specs.declared.Limits.{Limits}
-use Rattle.admission.specs.Admission.{ofThree, ofTwelve, finitePoints, boundedPoints, isSplit, finiteLimits, rangedLimits, finiteWalk, rangedWalk, walkRefusal, pointsRefusal, splitRefusal, factorRefusal, motionRefusal, timeRefusal, ratioRefusal}
+use Rattle.admission.specs.Admission.{ofThree, ofTwelve, finitePoints, boundedPoints, isSplit, finiteLimits}
+use Rattle.admission.specs.Admission.{rangedLimits, finiteWalk, rangedWalk, walkRefusal, pointsRefusal}
+use Rattle.admission.specs.Admission.{splitRefusal, factorRefusal, motionRefusal, timeRefusal, ratioRefusal}
 
 -- ---- the numbers of four points, by column and place
 module _ (test : Float → Bool) where

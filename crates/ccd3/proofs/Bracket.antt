@@ -9,8 +9,7 @@ use mathlib.Core.Logic.{inl, inr}
 use lib.Dec.{T}
 use lib.Ieee.{Float, binary32, add, lt, le, fits}
 use lib.Ieee.Fits.{mul-fits}
-use Rattle.number.specs.Number.{half32, one32}
-use Rattle.number.specs.Halving.{midpoint, nextLower, nextUpper, repeats, Halved, halve}
+use Rattle.number.specs.Number.{half32, one32, midpoint, nextLower, nextUpper, repeats, Halved, halve}
 use Rattle.number.proofs.Halvings.{Ends, begin, ends}
 use Rattle.number.proofs.Halvings.Turn.{Inv, next, few}
 use Rattle.number.proofs.Plus.{mid-plus}

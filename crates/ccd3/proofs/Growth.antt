@@ -8,8 +8,7 @@ use lib.Ieee.{Float, nan, inf, fin, binary32, lt, le, fits}
 use lib.Ieee.Fits.{add-fits, mul-fits, div-fits}
 use lib.Ieee.Bits.{ofBits-fits}
 use lib.Ieee.Scale.{finite}
-use Rattle.number.specs.Number.{_⊕_, _⊖_, _⊗_, _⊘_, zero32, one32, largest32, smaller, larger, bound}
-use Rattle.number.specs.Root.{rootOf}
+use Rattle.number.specs.Number.{_⊕_, _⊖_, _⊗_, _⊘_, zero32, one32, largest32, smaller, larger, bound, rootOf}
 use Rattle.number.proofs.Choice.{pick, larger-keeps, smaller-keeps}
 use Rattle.number.proofs.Later.{later-any}
 use Rattle.number.proofs.Signs.{plus-up, sum-plus}
@@ -18,7 +17,8 @@ use Rattle.number.proofs.Within.{Within}
 use Rattle.geometry.specs.Geometry.{Cross, crossPairs}
 use Rattle.admission.specs.declared.Limits.{Limits}
 use Rattle.ccd3.specs.declared.Aim.{Aim}
-use Rattle.ccd3.specs.SafeTime.{timeToPark, leftOf, speedOf, stops, leastOver, directional, park, dip, plain, aim, Visit, Step, stepFrom, next}
+use Rattle.ccd3.specs.SafeTime.{timeToPark, leftOf, speedOf, stops, leastOver, directional, park, dip, plain}
+use Rattle.ccd3.specs.SafeTime.{aim, Visit, Step, stepFrom, next}
 
 -- a squared distance that a walk can compute with: an f32 with the sign plus, and not too large
 pub record Sound (d : Float) : Type 0 where

@@ -1,4 +1,4 @@
--- A loop that follows `halve`, turn by turn (`Rattle.number.specs.Halving`), over the law for loops with a cap.
+-- A loop that follows `halve`, turn by turn (`halve`, number/specs/Number.antt), over the law for loops with a cap.
 -- Assumes nothing.
 use mathlib.Core.Path.{_≡_, refl, sym, ap, _∙_}
 use mathlib.Core.Logic.{_⊎_, inl, inr}
@@ -6,7 +6,7 @@ use mathlib.Core.Bool.{Bool, true, false}
 use Prim.Native.Nat.{ℕ, suc, _+_}
 use native.Mathlib.Numerals.{add-one}
 use lib.Ieee.{Float, eq}
-use Rattle.number.specs.Halving.{midpoint, window, nextLower, nextUpper, repeats, Halved, halve}
+use Rattle.number.specs.Number.{midpoint, window, nextLower, nextUpper, repeats, Halved, halve}
 
 module _ (p : Float → Bool) where
   -- where a halving stands: how many halvings were made, and the ends

@@ -12,8 +12,7 @@ use lib.ListN.{length}
 use lib.Ieee.{Float, binary32, lt, le, eq, ofBits}
 use lib.Ieee.Bits.{ofBits-fits}
 use lib.Ieee.Fits.{eq→eqb}
-use Rattle.number.specs.Number.{zero32, nextUp, written}
-use Rattle.number.specs.Halving.{halve}
+use Rattle.number.specs.Number.{zero32, nextUp, written, halve}
 use Rattle.number.proofs.NextUp.{next-of}
 use Rattle.number.proofs.Signs.{plus-up}
 use Rattle.number.proofs.Units.{zero-is, plus, same-float}
@@ -21,11 +20,13 @@ use Rattle.number.proofs.Units.Compared.{Is, finite-is, eq-is, lt-says, says-lt
 use Rattle.admission.specs.declared.Limits.{Limits}
 use Rattle.ccd3.specs.declared.Answer.{Answer}
 use Rattle.ccd3.specs.declared.Answer.the-variants.{Touching, Contact, Clear, Budget, Refused}
-use Rattle.ccd3.specs.SafeTime.{Visit, next, Walked, visit, above, closing, walk, InTime, Every, Rising, Stopped}
+use Rattle.ccd3.specs.SafeTime.{Visit, next, Walked, visit, above, closing, walk, InTime, Every, Rising}
+use Rattle.ccd3.specs.SafeTime.{Stopped}
 use Rattle.ccd3.proofs.WalkLaws.{walk-clears, walk-spends, walk-meets, walk-steps}
 use Rattle.ccd3.proofs.Bracket.{Timely, timely-refl, Bracket, bracket-ends}
 use Rattle.ccd3.proofs.Growth.{above-plus}
-use Rattle.ccd3.proofs.Standing.{zero-timely, Ground, Standing, Forward, limit-from, limit-units, stands-on, brackets, next-limit, next-timely, later}
+use Rattle.ccd3.proofs.Standing.{zero-timely, Ground, Standing, Forward, limit-from, limit-units, stands-on}
+use Rattle.ccd3.proofs.Standing.{brackets, next-limit, next-timely, later}
 
 -- ---- a time with the sign plus is written as it is
 is-zero : (t : Float) (i : Timely t) → i .units ≡ 0 → t ≡ zero32

@@ -3,13 +3,14 @@
 use mathlib.Core.Path.{_≡_, refl, sym, _∙_, subst}
 use mathlib.Core.Bool.{true, false}
 use Prim.Native.Nat.{ℕ, _+_, _-_, _*_, _^_, _≤_, _<_, zero, suc, zero-le}
-use native.Mathlib.Nat.{le-refl, le-trans, le-of-eq, le-of-lt, lt-of-le-of-lt, mul-le-mul, mul-le-mul-right, mul-le-mul-left, one-mul, le-of-mul-le-mul-right}
+use native.Mathlib.Nat.{le-refl, le-trans, le-of-eq, le-of-lt, lt-of-le-of-lt, mul-le-mul, mul-le-mul-right}
+use native.Mathlib.Nat.{mul-le-mul-left, one-mul, le-of-mul-le-mul-right}
 use native.Mathlib.Omega.{arith}
 use lib.Dec.{T, lit<, lit≤, ltb, ltb→lt, lt→ltb}
 use lib.Pow.{pow-pos}
 use lib.Ieee.{Float, fin, up, down, neg, sub, lt, ofBits, binary32, le, fits}
 use lib.Ieee.Fits.{down-pos, mul-fits, and-l, and-r}
-use Rattle.number.specs.Number.{_⊖_, _⊗_, half32, _⊘_, zero32, one32, bound, zeroToBound, speedRange}
+use Rattle.number.specs.Number.{_⊖_, _⊗_, half32, _⊘_, zero32, one32, bound, zeroToBound, speedRange, rootOf}
 use Rattle.number.proofs.Plus.{round-plus}
 use Rattle.number.proofs.Products.{mul-is, sum-mono, above-square, Root, root-above}
 use Rattle.number.proofs.Rounding.{rnd, Rep, rnd-mono, rnd-fix, rnd-rep}
@@ -21,7 +22,6 @@ use Rattle.admission.specs.declared.Limits.{Limits}
 use Rattle.ccd3.specs.SafeTime.{park, dip, plain}
 use lib.Ieee.Positive.{positive}
 use lib.Ieee.Scale.{finite}
-use Rattle.number.specs.Root.{rootOf}
 use Rattle.number.proofs.Quotients.{div-within}
 use Rattle.number.proofs.Signs.{plus-up, square-plus, product-plus, quotient-plus}
 use Rattle.number.proofs.SquareRoot.Bounds.{RootUnits, root-facts, root-within}

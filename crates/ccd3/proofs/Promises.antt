@@ -13,7 +13,9 @@ use Rattle.admission.specs.declared.Limits.{Limits}
 use Rattle.admission.proofs.Admitted.{Walkable, walk-admits}
 use Rattle.ccd3.specs.declared.Answer.{Answer}
 use Rattle.ccd3.specs.declared.Answer.the-variants.{Touching, Contact, Clear, Budget, Refused}
-use Rattle.ccd3.specs.SafeTime.{numbersOf, Walked, start, threshold, allowance, still, firstSquared, touches, between, safeRefusal, safeWalk, safeTimeOf, InTime, Every, Rising, isFar, Stopped, Passed, Promised, Promises}
+use Rattle.ccd3.specs.SafeTime.{numbersOf, Walked, start, threshold, allowance, still, firstSquared, touches}
+use Rattle.ccd3.specs.SafeTime.{between, safeRefusal, safeWalk, safeTimeOf, InTime, Every, Rising, isFar}
+use Rattle.ccd3.specs.SafeTime.{Stopped, Passed, Promised, Promises}
 use Rattle.ccd3.proofs.StartLaws.{walked, number-none, safe-refused, safe-touches, safe-walks}
 use Rattle.ccd3.proofs.Standing.{zero-timely, Ground, limit-from, start-number, number-at, start-stands}
 use Rattle.ccd3.proofs.Kept.{Says, Kept, in-time, clear-in-time, walk-keeps}

@@ -7,8 +7,8 @@ use mathlib.Core.Bool.{Bool, true, false, cond, _&&_, _||_, not}
 use mathlib.Core.List.{List, [], _∷_}
 use lib.{Dec.T, Dec.eqb, ListN.length}
 use lib.Ieee.{Float, binary32, lt, le, eq, isNan, ofBits}
-use Rattle.number.specs.Number.{_⊕_, _⊖_, _⊗_, _⊘_, zero32, half32, one32, largest32, size, smaller, larger, written, nextUp}
-use Rattle.number.specs.{Root.rootOf, Halving.Halved, Halving.halve}
+use Rattle.number.specs.Number.{_⊕_, _⊖_, _⊗_, _⊘_, zero32, half32, one32, largest32, size, smaller, larger, written}
+use Rattle.number.specs.Number.{nextUp, rootOf, Halved, halve}
 use Rattle.geometry.specs.Geometry.{at, col, vec, minus, dot, moved, Cross, crossPairs}
 use Rattle.distance.specs.{declared.candidate.Nearest.Nearest, Distance.nearestOf}
 use Rattle.admission.specs.{declared.Limits.Limits, Admission.walkRefusal}

@@ -7,7 +7,8 @@ use lib.Ieee.{Float}
 use Rattle.geometry.specs.Geometry.{minus}
 use Rattle.distance.specs.declared.candidate.Nearest.{Nearest}
 use Rattle.distance.specs.declared.products.Products.{Products}
-use Rattle.distance.specs.Distance.{productsOf, pointSegment, segmentPoint, nearestFrom, edgesMeet, edgeInterior, edgeEdge, overFace, faceInterior, faceVertex}
+use Rattle.distance.specs.Distance.{productsOf, pointSegment, segmentPoint, nearestFrom, edgesMeet}
+use Rattle.distance.specs.Distance.{edgeInterior, edgeEdge, overFace, faceInterior, faceVertex}
 use Rattle.distance.proofs.Choice.{nearestBack, Found}
 
 module _ (x0 x1 x2 x3 : List Float) {c0 c1 c2 inner : Nearest} {there : Bool} {p : Products} where

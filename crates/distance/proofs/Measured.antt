@@ -12,10 +12,13 @@ use Rattle.number.proofs.Units.{plus}
 use Rattle.number.proofs.Within.{Within}
 use Rattle.number.proofs.Ranges.{zero-to-one}
 use Rattle.geometry.specs.Geometry.{col, minus, along, lerpOf}
-use Rattle.geometry.proofs.Bounds.{VecWithin, PointsWithin, col-within, vec-more, minus-within, dot-within, along-within, lerp-within}
+use Rattle.geometry.proofs.Bounds.{VecWithin, PointsWithin, col-within, vec-more, minus-within, dot-within}
+use Rattle.geometry.proofs.Bounds.{along-within, lerp-within}
 use Rattle.distance.specs.declared.candidate.Nearest.{Nearest}
 use Rattle.distance.specs.declared.products.Products.{Products}
-use Rattle.distance.specs.Distance.{placeOn, productsOf, beMinusCd, cdMinusBe, aeMinusBd, fromTo, pointSegment, segmentPoint, edgesMeet, edgeInterior, edgeEdge, overFace, faceInterior, faceVertex, candidatesOf, nearestOf}
+use Rattle.distance.specs.Distance.{placeOn, productsOf, beMinusCd, cdMinusBe, aeMinusBd, fromTo, pointSegment}
+use Rattle.distance.specs.Distance.{segmentPoint, edgesMeet, edgeInterior, edgeEdge, overFace, faceInterior}
+use Rattle.distance.specs.Distance.{faceVertex, candidatesOf, nearestOf}
 use Rattle.distance.proofs.Listed.{listed, Each, each-only, smallest-keeps}
 use Rattle.distance.proofs.Weights.{weights-in}
 use Rattle.distance.proofs.Ratios.{square-is-plus, place-within}

@@ -12,7 +12,8 @@ use Rattle.number.specs.Number.{_⊕_, _⊖_, _⊗_}
 use Rattle.number.proofs.Within.{Within, within-more, add-within, sub-within, mul-within}
 use Rattle.number.proofs.Within as W
 use Rattle.number.proofs.Ranges.{bits-within}
-use Rattle.geometry.specs.Geometry.{at, col, vec, minus, dot, along, lerpOf, columns, moved, centreOf, centred, times, scaled}
+use Rattle.geometry.specs.Geometry.{at, col, vec, minus, dot, along, lerpOf, columns, moved, centreOf, centred}
+use Rattle.geometry.specs.Geometry.{times, scaled}
 
 -- each number of four points passes a test
 abbrev pub Each : (Float → Bool) → List (List Float) → Type 0

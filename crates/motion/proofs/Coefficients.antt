@@ -16,13 +16,12 @@ use Rattle.geometry.specs.Geometry.{at, col, triple}
 use Rattle.geometry.proofs.Bounds.{VecWithin, minus-within, col-within}
 use Rattle.polynomial_root.specs.declared.answer.Roots.{Roots}
 use Rattle.polynomial_root.specs.declared.cubic.Cubic.{Cubic}
-use Rattle.polynomial_root.specs.Quadratic as Made
-use Rattle.polynomial_root.specs.Finder.{cubicRefusal, cubicRootsInRange}
+use Rattle.polynomial_root.specs.Roots as Made
+use Rattle.polynomial_root.specs.Roots.{cubicRefusal, cubicRootsInRange, cubicRoots}
 use Rattle.polynomial_root.proofs.Admitted.{finiteCubic, rangedCubic}
-use Rattle.polynomial_root.specs.Cubic.{cubicRoots}
 use Rattle.admission.specs.Admission.{finitePoints, boundedPoints, motionRefusal}
 use Rattle.admission.proofs.Admitted.{within-real, points-within, motion-admits, motion-first}
-use Rattle.motion.specs.Coplanar.{volume, edge, motionCubic, coplanarTimes}
+use Rattle.motion.specs.Motion.{volume, edge, motionCubic, coplanarTimes}
 use Rattle.motion.proofs.Refusals.{cubic-refusal}
 
 -- an edge, a triple product of edges, by size; a sum of three such products is finite too

@@ -16,7 +16,7 @@ use Rattle.number.proofs.Within.{Within}
 use Rattle.number.proofs.Capped.{Capped, capped-start, capped-goes-on}
 use Rattle.number.proofs.Quotients.{eighth-within}
 use Rattle.motion.specs.declared.factors.Factors.{Factors}
-use Rattle.motion.specs.Scaling.{eight32, ending, eighths, mostEights, factorsOf}
+use Rattle.motion.specs.Motion.{eight32, ending, eighths, mostEights, factorsOf}
 
 -- n factors of 8 were taken out of a finite number, and f is left
 pub record Left (n : ℕ) (f : Float) : Type 0 where

@@ -1,7 +1,8 @@
 -- The product of a scaling's factors is its first factor, bit for bit: eighths of a number above 8 and products by 8
 -- are exact, so what is taken out comes back. Assumes nothing.
 use Prim.Native.Nat.{ℕ, zero, suc, _+_, _-_, _*_, _^_, _≤_, _<_, zero-le}
-use native.Mathlib.Nat.{mul-one, one-mul, mul-assoc, mul-comm, mul-pos, mul-right-comm, lt-of-lt-of-le, le-of-eq, le-of-lt, not-le-of-lt, le-trans, lt-of-le-of-lt, mul-le-mul-left}
+use native.Mathlib.Nat.{mul-one, one-mul, mul-assoc, mul-comm, mul-pos, mul-right-comm, lt-of-lt-of-le, le-of-eq}
+use native.Mathlib.Nat.{le-of-lt, not-le-of-lt, le-trans, lt-of-le-of-lt, mul-le-mul-left}
 use native.Mathlib.Omega.{arith}
 use native.Mathlib.Decide.{decLe}
 use mathlib.Core.Path.{_≡_, refl, sym, ap, _∙_, subst}
@@ -19,7 +20,7 @@ use Rattle.number.proofs.Products.{mul-is}
 use Rattle.number.proofs.Comparing.{lt-le}
 use Rattle.number.proofs.Finite.{is-finite}
 use Rattle.motion.specs.declared.factors.Factors.{Factors}
-use Rattle.motion.specs.Scaling.{eight32, eighths, mostEights, factorsOf}
+use Rattle.motion.specs.Motion.{eight32, eighths, mostEights, factorsOf}
 use Rattle.motion.proofs.Eighths.{eighths-turn, eighths-stop}
 
 -- a positive number of units has the sign plus

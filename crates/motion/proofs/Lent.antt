@@ -14,7 +14,8 @@ use Rattle.number.proofs.answer.Answered as N
 use Rattle.number.proofs.answer.Answered.Laws as N′
 use Rattle.motion.specs.declared.record.Pair.{Pair}
 use Rattle.motion.specs.declared.scaling.Outcome.{Outcome}
-use Rattle.motion.specs.Scaling.{scalingRefusal, scalingOf, scaledPair, leaves, outcome}
+use Rattle.motion.specs.Motion.{scalingRefusal, scalingOf, scaledPair, leaves}
+use Rattle.motion.specs.Inner.{outcome}
 use Rattle.motion.proofs.record.Pair as T
 use Rattle.motion.proofs.record.Pair.Laws as T′
 use Rattle.motion.proofs.scaling.Outcome as O

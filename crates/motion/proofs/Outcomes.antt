@@ -12,7 +12,9 @@ use Rattle.admission.specs.Admission.{timeRefusal}
 use Rattle.motion.specs.declared.record.Pair.{Pair}
 use Rattle.motion.specs.declared.factors.Factors.{Factors}
 use Rattle.motion.specs.declared.scaling.Outcome.{Outcome}
-use Rattle.motion.specs.Scaling.{usable, factorsOf, firstFactor, factorsFor, scaledWith, scaledPair, finitePair, scalingRefusal, leaves, refusedBy, outcome}
+use Rattle.motion.specs.Motion.{usable, factorsOf, firstFactor, factorsFor, scaledWith, scaledPair, finitePair}
+use Rattle.motion.specs.Motion.{scalingRefusal, leaves}
+use Rattle.motion.specs.Inner.{refusedBy, outcome}
 
 module _ (p : Pair) (t : Float) where
   refused-by : (n : ℕ) → scalingRefusal p t ≡ n → (n ≡ 0 → ⊥) → refusedBy p n ≡ outcome p t

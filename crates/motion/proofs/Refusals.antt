@@ -12,8 +12,10 @@ use Rattle.polynomial_root.specs.declared.newton.Found.the-variants.{Root, Noth
 use Rattle.polynomial_root.specs.declared.quadratic.Solved.{Solved}
 use Rattle.polynomial_root.specs.declared.quadratic.Solved.the-variants.{Neither, Both}
 use Rattle.polynomial_root.specs.declared.span.End.{End}
-use Rattle.polynomial_root.specs.Quadratic.{none, refused, push, two32, solved}
-use Rattle.polynomial_root.specs.Cubic.{three32, valueAt, slopeAt, stepped, bothZero, descend, newtonSteps, endAt, started, spanRoot, vanishes, opposite, linearRoots, keep, keptRoots, lowerRoots, joined, after, start, spanRoots, cubicRoots}
+use Rattle.polynomial_root.specs.Roots.{none, refused, push, two32, solved, three32, valueAt, slopeAt, stepped}
+use Rattle.polynomial_root.specs.Roots.{bothZero, descend, newtonSteps, endAt, started, spanRoot, vanishes, opposite}
+use Rattle.polynomial_root.specs.Roots.{linearRoots, keep, keptRoots, lowerRoots, joined, after, start, spanRoots}
+use Rattle.polynomial_root.specs.Roots.{cubicRoots}
 use Rattle.polynomial_root.proofs.Places.{push-refusal}
 
 -- a property of the number 0, for no refusal, and of 6, 7 and 8

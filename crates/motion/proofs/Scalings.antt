@@ -13,7 +13,8 @@ use Rattle.number.specs.declared.answer.Answered.{Answered}
 use Rattle.number.proofs.Answers.{taken, refused, clauses}
 use Rattle.admission.specs.Admission.{timeRefusal}
 use Rattle.motion.specs.declared.record.Pair.{Pair}
-use Rattle.motion.specs.Scaling.{maxEntry, usable, mostEights, firstFactor, factorsFor, scaledPair, finitePair, scalingRefusal, scalingOf, leaves, Scales}
+use Rattle.motion.specs.Motion.{maxEntry, usable, mostEights, firstFactor, factorsFor, scaledPair, finitePair}
+use Rattle.motion.specs.Motion.{scalingRefusal, scalingOf, leaves, Scales}
 use Rattle.motion.proofs.Eighths.{Ended, factors-end}
 use Rattle.motion.proofs.Exact.{product-exact}
 

@@ -1,3 +1,3 @@
 -- What the contracts of `motion` cite. Definitions only.
-pub mod Scaling
-pub mod Coplanar
+pub mod Motion
+pub mod Inner

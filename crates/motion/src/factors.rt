@@ -3,7 +3,7 @@
 ghost use mathlib.Core.Path.{_≡_};
 ghost use mathlib.Core.Bool.{true};
 ghost use Rattle.number.specs.Number.{isFinite};
-ghost use Rattle.motion.specs.Scaling as Def;
+ghost use Rattle.motion.specs.Motion as Def;
 use geometry::mat3x4_array_of_cols as columns;
 use number::order;
 use number::range;

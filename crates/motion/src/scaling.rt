@@ -2,7 +2,8 @@
 // multiplied by 8 and at last by a factor of at most 8, so that the largest, at time 0 or at max_t, is about 0.99.
 ghost use mathlib.Core.Path.{_≡_};
 ghost use Rattle.admission.specs.Admission.{timeRefusal};
-ghost use Rattle.motion.specs.Scaling as Def;
+ghost use Rattle.motion.specs.Motion as Def;
+ghost use Rattle.motion.specs.Inner as Inner;
 use crate::factors::Factors;
 use crate::factors::{self};
 use crate::record::Pair;
@@ -51,7 +52,7 @@ fn finite_pair(p: Pair) -> bool
 
 // The pair stays as it was.
 fn refused(p: Pair, number: u32) -> Outcome
-    ensures { λ r. ⌜ r ≡ Def.refusedBy p number ⌝ }
+    ensures { λ r. ⌜ r ≡ Inner.refusedBy p number ⌝ }
 {
     let answer = Answered::Refused(number);
     Outcome {
@@ -63,7 +64,7 @@ fn refused(p: Pair, number: u32) -> Outcome
 
 // Scaling by value: what is answered, and what the pair becomes.
 fn scaled_pair(p: Pair, max_t: f32) -> Outcome
-    ensures { λ r. ⌜ r ≡ Def.outcome p «max_t» ⌝ }
+    ensures { λ r. ⌜ r ≡ Inner.outcome p «max_t» ⌝ }
 {
     let refusal = admit_pair(p, max_t);
     if refusal != 0 {

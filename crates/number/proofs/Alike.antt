@@ -7,8 +7,8 @@ use Prim.Native.Nat.{ℕ, zero, suc, _+_, _*_, _<_}
 use native.Mathlib.Nat.{zero-mul, mul-zero, zero-add, add-zero, mul-pos, eq-zero-or-pos, zero-lt-suc}
 use mathlib.Core.Bool.{Bool, true, false, not, _&&_, _||_, Bool·beq, cond, true≢false}
 use lib.Dec.{T, ltb, eqb, lit<, leb·suc-zero, eqb·suc-zero}
-use lib.Ieee.{Float, nan, inf, fin, binary32, up, down, unlike, ofBits}
-use lib.Ieee.{round, neg, sum, add, sub, mul, div, below, level, lt, eq, le}
+use lib.Ieee.{Float, nan, inf, fin, binary32, up, down, unlike, ofBits, round, neg, sum, add, sub, mul, div, below}
+use lib.Ieee.{level, lt, eq, le}
 use lib.Ieee.Fits.{up-pos, down-pos}
 use Rattle.number.specs.Number.{_⊕_, _⊖_, _⊗_, _⊘_, zero32, clamp}
 use Rattle.number.proofs.Units.{plus}

@@ -5,8 +5,8 @@ use mathlib.Core.Path.{_≡_, refl}
 use lib.Ieee.{binary32, lt, ofBits}
 use Rattle.number.specs.declared.answer.Answered.{Answered}
 use Rattle.number.specs.declared.answer.Answered.the-variants.{Value}
-use Rattle.number.specs.Number.{isFinite, answered}
-use Rattle.number.specs.Root.{unitsOf, twiceMiddle, twiceRootSquared, rootAtLeast, last, rootOf, rootRefusal}
+use Rattle.number.specs.Number.{isFinite, answered, unitsOf, twiceMiddle, twiceRootSquared, rootAtLeast, last}
+use Rattle.number.specs.Number.{rootOf, rootRefusal}
 
 -- what is answered to the pattern of an argument
 abbrev rootAt : ℕ → Answered

@@ -9,8 +9,7 @@ use Prim.Native.Nat.{ℕ, zero, suc, _+_, _-_, _*_, _≤_}
 use native.Mathlib.Omega.{arith}
 use lib.Dec.{T}
 use lib.Ieee.{Float, binary32, lt, le, fits, toBits}
-use Rattle.number.specs.Number.{zero32, one32, nextUp}
-use Rattle.number.specs.Halving.{midpoint, nextLower, nextUpper, repeats, Halved, halve}
+use Rattle.number.specs.Number.{zero32, one32, nextUp, midpoint, nextLower, nextUpper, repeats, Halved, halve}
 use Rattle.number.proofs.Units.{finite-is, L, plus}
 use Rattle.number.proofs.Neighbours.{after}
 use Rattle.number.proofs.NextUp.{next-of}

@@ -11,8 +11,7 @@ use lib.Ieee.{Float, fin, binary32, fits, lt, toBits, ofBits}
 use lib.Ieee.Bits.{ofBits-toBits}
 use lib.Ieee.Scale.{finite}
 use Rattle.number.specs.Number.{nextUp, infBits}
-use Rattle.number.proofs.Units.{none-is, Is, finite-is, Unit32, plus, pattern-is, says-lt}
-use Rattle.number.proofs.Units.{lt-says}
+use Rattle.number.proofs.Units.{none-is, Is, finite-is, Unit32, plus, pattern-is, says-lt, lt-says}
 use Rattle.number.proofs.Patterns.{val, val-next, val-back, bits-are}
 use Rattle.number.proofs.Neighbours.{bits-val, after, below-finite}
 

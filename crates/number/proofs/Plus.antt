@@ -7,8 +7,7 @@ use lib.IntN.{ℤ}
 use lib.Ieee.Order.{drop, kept}
 use lib.Ieee.{Float, inf, fin, binary32, up, down, round, units, odd, add, mul, ofBits}
 use lib.Ieee.Fits.{round-is}
-use Rattle.number.specs.Number.{half32}
-use Rattle.number.specs.Halving.{midpoint}
+use Rattle.number.specs.Number.{half32, midpoint}
 use Rattle.number.proofs.Units.{L, Is, plus, no-size}
 use Rattle.number.proofs.Sums.{add-opens, sum-ff, sum-ft, none-le}
 

@@ -12,7 +12,8 @@ use lib.Pow.{pow-add}
 use lib.Ieee.{Float, inf, fin, binary32, up, down, neg, lt, le, ofBits, nan}
 use lib.Ieee.Fits.{and-l, and-r, down-pos}
 use lib.Ieee.Scale.{finite}
-use Rattle.number.specs.Number.{zero32, one32, bound, inBound, zeroToBound, zeroToOne, aboveZeroToOne, speedRange, infBits}
+use Rattle.number.specs.Number.{zero32, one32, bound, inBound, zeroToBound, zeroToOne, aboveZeroToOne}
+use Rattle.number.specs.Number.{speedRange, infBits}
 use Rattle.number.proofs.Units.{L}
 use Rattle.number.proofs.Within.{Within, within-finite, units-within}
 use Rattle.number.proofs.Quotients.{AtLeast}

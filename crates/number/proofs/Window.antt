@@ -11,8 +11,7 @@ use lib.Dec.{T, ltb→lt, leb→le, eqb→eq, lit<, lit≤}
 use lib.Pow.{pow-pos}
 use lib.Ieee.{Float, nan, inf, fin, binary32, add, lt, le, eq, fits, ofBits}
 use lib.Ieee.Scale.{finite}
-use Rattle.number.specs.Number.{zero32, one32}
-use Rattle.number.specs.Halving.{midpoint, window}
+use Rattle.number.specs.Number.{zero32, one32, midpoint, window}
 use Rattle.number.proofs.Rounding.{rnd, Rep, rnd-mono, rnd-fix, rnd-rep, rnd-less}
 use Rattle.number.proofs.Middle.{mid, mid-between, mid-third, Third}
 use Rattle.number.proofs.Units.{L, Top, Is, Unit32, lt-is, le-is, eq-is, of-float, one-is}

@@ -1,5 +1,3 @@
 -- What the contracts of `number` cite. Definitions only.
 pub mod Number
-pub mod Root
-pub mod Halving
-pub mod RootDigits
+pub mod Inner

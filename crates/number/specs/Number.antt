@@ -1,9 +1,10 @@
--- Single-precision numbers (docs/01-scope.md, opening, "Number helpers", "The numbers allowed", "Refusal numbers"):
--- the operations, each rounded once to nearest even, the helpers, the ranges, what a call answers. Definitions only.
-use Prim.Native.Nat.{ℕ, zero, suc, _-_}
-use mathlib.Core.Bool.{Bool, true, false, cond, _&&_}
-use lib.Dec.{eqb}
-use lib.Ieee.{Float, nan, inf, fin, binary32, add, sub, mul, div, lt, le, eq, neg, toBits, ofBits}
+-- Single-precision numbers (docs/01-scope.md, opening, "Number helpers", "The numbers allowed", "Refusal numbers",
+-- "Square root and norm", "The walk"): the operations, each rounded once to nearest even, the helpers, the ranges, what a
+-- call answers, the square root, and the halving of a span of times. Definitions only.
+use Prim.Native.Nat.{ℕ, zero, suc, _-_, _+_, _*_, _/_, _%_, _^_}
+use mathlib.Core.Bool.{Bool, true, false, cond, _&&_, _||_}
+use lib.Dec.{eqb, ltb}
+use lib.Ieee.{Float, nan, inf, fin, binary32, add, sub, mul, div, lt, le, eq, neg, toBits, ofBits, up, down}
 use Rattle.number.specs.declared.answer.Answered.{Answered, the-variants.Value, the-variants.Refused}
 
 infixl 65 _⊕_ _⊖_
@@ -123,3 +124,79 @@ valueOf (Refused n) = zero32
 -- by a refusal number: the value, or the refusal
 unfoldable pub answered : ℕ → Float → Answered
 answered n v = admitted n (Value v) (Refused n)
+
+-- ---- the square root: the f32 nearest to the exact root, ties to even, found by comparing whole-number squares
+-- the size of a finite number, counted in the smallest f32 above zero, 2 ^ -149
+unfoldable pub unitsOf : Float → ℕ
+unitsOf nan = 0
+unitsOf (inf s) = 0
+unitsOf (fin s m e) = m * up e * 2 ^ 149 / down e
+
+-- twice the middle between the f32 of pattern b - 1 and the one of pattern b
+unfoldable pub twiceMiddle : ℕ → ℕ
+twiceMiddle b = unitsOf (ofBits binary32 (b - 1)) + unitsOf (ofBits binary32 b)
+
+-- the square of twice the exact root of x, in the same unit
+unfoldable pub twiceRootSquared : Float → ℕ
+twiceRootSquared x = 4 * (unitsOf x * 2 ^ 149)
+
+-- b is the pattern of a finite f32 from zero up, and the exact root of x lies above the middle below that f32, or on
+-- the middle and b is even
+unfoldable pub rootAtLeast : Float → ℕ → Bool
+rootAtLeast x b =
+    let m = twiceMiddle b * twiceMiddle b in
+    let n = twiceRootSquared x in
+    ltb b infBits && (ltb m n || (eqb m n && eqb (b % 2) 0))
+
+-- the last number below b + 2 ^ k that passes a test which b passes, for a test that none passes after one that fails
+unfoldable pub last : (ℕ → Bool) → ℕ → ℕ → ℕ
+last test zero b = b
+last test (suc k) b = last test k (cond (test (b + 2 ^ k)) (b + 2 ^ k) b)
+
+-- the f32 nearest to the exact root of a positive finite x; plus zero for any other x
+unfoldable pub rootOf : Float → Float
+rootOf x = cond (lt zero32 x && isFinite x) (ofBits binary32 (last (rootAtLeast x) 31 0)) zero32
+
+-- the refusal number of an argument, 0 for none: 1 for NaN or an infinity, else 2 below zero
+unfoldable pub rootRefusal : Float → ℕ
+rootRefusal x = cond (isFinite x) (cond (lt x zero32) 2 0) 1
+
+-- ---- the halving of a span of times over any test: midpoints, until the computed window repeats. The last halving, which
+-- moves nothing, is counted.
+abbrev pub midpoint : Float → Float → Float
+midpoint lower upper = half32 ⊗ (upper ⊕ lower)
+
+abbrev pub window : Float → Float → Float
+window lower upper = upper ⊖ lower
+
+-- the ends after one halving: the midpoint is the new lower end where the test holds there, else the new upper end
+abbrev pub nextLower : (Float → Bool) → Float → Float → Float
+nextLower test lower upper = cond (test (midpoint lower upper)) (midpoint lower upper) lower
+
+abbrev pub nextUpper : (Float → Bool) → Float → Float → Float
+nextUpper test lower upper = cond (test (midpoint lower upper)) upper (midpoint lower upper)
+
+-- the halving moved nothing that the computed window shows
+abbrev pub repeats : (Float → Bool) → Float → Float → Bool
+repeats test lower upper =
+    eq (window (nextLower test lower upper) (nextUpper test lower upper)) (window lower upper)
+
+-- where a halving ended, after how many halvings, and whether it ended by itself
+pub record Halved : Type 0 where
+  pub lower : Float
+  pub upper : Float
+  pub count : ℕ
+  pub stopped : Bool
+
+-- at most k more halvings, after n
+unfoldable pub halve : (Float → Bool) → ℕ → ℕ → Float → Float → Halved
+halve test zero n lower upper = record { lower = lower; upper = upper; count = n; stopped = false }
+halve test (suc k) n lower upper = elim (repeats test lower upper) [
+  | true ↦ record {
+    lower = nextLower test lower upper;
+    upper = nextUpper test lower upper;
+    count = suc n;
+    stopped = true;
+  }
+  | false ↦ halve test k (suc n) (nextLower test lower upper) (nextUpper test lower upper)
+]

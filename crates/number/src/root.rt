@@ -2,8 +2,8 @@
 ghost use mathlib.Core.Path.{_≡_};
 ghost use Prim.Native.Nat.{_+_, _*_, _^_, _≤_, _<_};
 ghost use Rattle.number.specs.Number.{refusalOf, valueOf, answered};
-ghost use Rattle.number.specs.Root as Def;
-ghost use Rattle.number.specs.RootDigits.{RootBits};
+ghost use Rattle.number.specs.Number as Def;
+ghost use Rattle.number.specs.Inner.{RootBits};
 use crate::answer::Answered;
 use crate::range;
 

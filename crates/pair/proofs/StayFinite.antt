@@ -11,10 +11,13 @@ use Rattle.number.specs.Number.{isFinite, inBound, admitted}
 use Rattle.number.proofs.Answers.{taken}
 use Rattle.number.proofs.Ranges.{in-bound, zero-to-bound, zero-to-one}
 use Rattle.geometry.specs.Geometry.{at, col, lerpOf, moved, centred, scaled}
-use Rattle.geometry.proofs.Bounds.{VecWithin, PointsWithin, col-within, lerp-within, moved-within, scaled-within, centred-within}
-use Rattle.admission.specs.Admission.{ofThree, ofTwelve, finitePoints, pointsRefusal, factorRefusal, timeRefusal, ratioRefusal}
+use Rattle.geometry.proofs.Bounds.{VecWithin, PointsWithin, col-within, lerp-within, moved-within, scaled-within}
+use Rattle.geometry.proofs.Bounds.{centred-within}
+use Rattle.admission.specs.Admission.{ofThree, ofTwelve, finitePoints, pointsRefusal, factorRefusal, timeRefusal}
+use Rattle.admission.specs.Admission.{ratioRefusal}
 use Rattle.pair.specs.Points.{zeros, placed, movedInto, centredIn, scaledIn}
-use Rattle.admission.proofs.Admitted.{within-real, three-each, points-within, points-admits, factor-admits, time-admits, ratio-admits}
+use Rattle.admission.proofs.Admitted.{within-real, three-each, points-within, points-admits, factor-admits}
+use Rattle.admission.proofs.Admitted.{time-admits, ratio-admits}
 
 -- three numbers, and twelve, are finite if each is within a power of two
 three : (a : ℕ) (v : List Float) → VecWithin a v → T (ofThree isFinite v)

@@ -4,7 +4,7 @@
 use Prim.Native.Nat.{ℕ}
 use mathlib.Core.List.{List, foldl}
 use lib.Ieee.{Float}
-use Rattle.number.specs.{Number.zero32, Number.larger, Number.admitted, Root.rootOf}
+use Rattle.number.specs.Number.{zero32, larger, admitted, rootOf}
 use Rattle.geometry.specs.Geometry.{col, vec, minus, dot, lerpOf, moved, centred, scaled, Cross, crossPairs}
 use Rattle.admission.specs.Admission.{pointsRefusal, factorRefusal, timeRefusal, ratioRefusal, splitRefusal}
 use Rattle.distance.specs.Distance.{nearestOf}

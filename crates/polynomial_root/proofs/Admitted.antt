@@ -7,7 +7,7 @@ use Rattle.number.proofs.Answers.{refusal-none}
 use Rattle.number.proofs.Comparing.{all-three, all-four}
 use Rattle.number.proofs.Within.{Within}
 use Rattle.number.proofs.Ranges.{in-bound, above-zero-to-one}
-use Rattle.polynomial_root.specs.Finder.{quadraticRefusal, cubicRefusal}
+use Rattle.polynomial_root.specs.Roots.{quadraticRefusal, cubicRefusal}
 use Rattle.polynomial_root.specs.declared.cubic.Cubic.{Cubic}
 use Rattle.polynomial_root.proofs.Spans.{Allowed}
 

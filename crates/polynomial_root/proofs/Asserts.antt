@@ -11,8 +11,7 @@ use lib.Ieee.Fits.{down-pos, mul-fits}
 use Rattle.number.specs.Number.{_⊗_, zero32, size, smaller, larger}
 use Rattle.number.proofs.Within.{Within, within-more, mul-within}
 use Rattle.number.proofs.Comparing.{lt-le}
-use Rattle.polynomial_root.specs.Quadratic.{two32, solved}
-use Rattle.polynomial_root.specs.Cubic.{three32, vanishes}
+use Rattle.polynomial_root.specs.Roots.{two32, solved, three32, vanishes}
 use Rattle.polynomial_root.specs.declared.cubic.Cubic.{Cubic}
 use Rattle.polynomial_root.specs.declared.quadratic.Solved.the-variants.{Both}
 use Rattle.polynomial_root.proofs.Defined.{two-within, three-within}

@@ -4,12 +4,12 @@ use Prim.Native.Nat.{ℕ}
 use mathlib.Core.Path.{_≡_, refl}
 use mathlib.Core.List.{[], _∷_}
 use lib.Ieee.{Float, binary32, neg, add, sub, mul, div, lt, le, eq, ofBits}
-use Rattle.number.specs.Number.{zero32, half32, one32, size, smaller, larger, clamp, isFinite, written}
-use Rattle.number.specs.Root.{unitsOf, twiceMiddle, twiceRootSquared, rootAtLeast, last, rootOf}
+use Rattle.number.specs.Number.{zero32, half32, one32, size, smaller, larger, clamp, isFinite, written, unitsOf}
+use Rattle.number.specs.Number.{twiceMiddle, twiceRootSquared, rootAtLeast, last, rootOf}
 use Rattle.number.proofs.Corners.{RootCorners, root-corners}
-use Rattle.polynomial_root.specs.Quadratic.{none, refused, push, two32, solved}
-use Rattle.polynomial_root.specs.Cubic.{three32, cubicOf, descend, started, spanRoot, linearRoots, keep, keptRoots, lowerRoots, joined, after, spanRoots, cubicRoots}
-use Rattle.polynomial_root.specs.Finder.{solvedRoots, quadraticRoot, cubicRootsInRange}
+use Rattle.polynomial_root.specs.Roots.{none, refused, push, two32, solved, three32, cubicOf, descend, started}
+use Rattle.polynomial_root.specs.Roots.{spanRoot, linearRoots, keep, keptRoots, lowerRoots, joined, after}
+use Rattle.polynomial_root.specs.Roots.{spanRoots, cubicRoots, solvedRoots, quadraticRoot, cubicRootsInRange}
 use Rattle.polynomial_root.specs.declared.answer.Roots.{Roots}
 
 abbrev found : ℕ → Float → Float → Float → Roots

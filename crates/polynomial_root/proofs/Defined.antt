@@ -11,8 +11,7 @@ use lib.Ieee.Fits.{and-i}
 use lib.Ieee.Scale.{finite}
 use Rattle.number.specs.Number.{_⊕_, _⊖_, _⊗_, _⊘_, zero32}
 use Rattle.number.proofs.Within.{Within, within-more, add-within, mul-within, round-no-nan}
-use Rattle.polynomial_root.specs.Quadratic.{two32}
-use Rattle.polynomial_root.specs.Cubic.{three32, valueAt, slopeAt}
+use Rattle.polynomial_root.specs.Roots.{two32, three32, valueAt, slopeAt}
 use Rattle.polynomial_root.specs.declared.cubic.Cubic.{Cubic}
 use Rattle.polynomial_root.proofs.Zeros.{zero-eq}
 

@@ -6,9 +6,7 @@ use lib.Dec.{eqb}
 use lib.Ieee.{Float}
 use borrow.Author.Tests.{eqb-true}
 use Rattle.number.specs.Number.{zero32, between, written}
-use Rattle.polynomial_root.specs.Quadratic.{none, push}
-use Rattle.polynomial_root.specs.Cubic.{keep, keptRoots, joined, after}
-use Rattle.polynomial_root.specs.Finder.{solvedRoots}
+use Rattle.polynomial_root.specs.Roots.{none, push, keep, keptRoots, joined, after, solvedRoots}
 use Rattle.polynomial_root.specs.declared.answer.Roots.{Roots}
 use Rattle.polynomial_root.specs.declared.newton.Found.{Found}
 use Rattle.polynomial_root.specs.declared.newton.Found.the-variants.{Root, Nothing, Refused}

@@ -1,7 +1,8 @@
 -- The linear root a / (a - b), for a and b on opposite sides of zero and not both zero, lies in 0..1: the computed
 -- difference has the sign of a, where a is not zero, and is no smaller than a. Assumes nothing.
 use Prim.Native.Nat.{ℕ, _+_, _*_, _^_, _≤_, _<_, zero-le}
-use native.Mathlib.Nat.{le-trans, le-of-eq, add-comm, one-mul, zero-mul, mul-pos, mul-le-mul-right, le-of-mul-le-mul-right, eq-zero-or-pos, eq-or-lt-of-le}
+use native.Mathlib.Nat.{le-trans, le-of-eq, add-comm, one-mul, zero-mul, mul-pos, mul-le-mul-right}
+use native.Mathlib.Nat.{le-of-mul-le-mul-right, eq-zero-or-pos, eq-or-lt-of-le}
 use native.Mathlib.Omega.{arith}
 use mathlib.Core.Path.{_≡_, refl, sym, ap, _∙_, subst}
 use mathlib.Core.Logic.{_⊎_, inl, inr}
@@ -22,7 +23,7 @@ use Rattle.number.proofs.Within.{Within, within-more, within-units, round-withi
 use Rattle.number.proofs.Comparing.{or-l, or-r}
 use Rattle.number.proofs.Plus.{round-plus}
 use Rattle.number.proofs.Signs.{plus-up}
-use Rattle.polynomial_root.specs.Cubic.{bothZero, opposite}
+use Rattle.polynomial_root.specs.Roots.{bothZero, opposite}
 use Rattle.polynomial_root.proofs.Zeros.{zero-eq, low-zero, high-zero}
 use Rattle.polynomial_root.proofs.Differences.{zero-of, pos-of, units-of, no-overflow, Sides, difference}
 

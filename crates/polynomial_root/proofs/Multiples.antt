@@ -19,8 +19,7 @@ use Rattle.number.proofs.Units.{Top, shift}
 use Rattle.number.proofs.Sums.Rounded.{round-at, round-units}
 use Rattle.number.proofs.Later.{grows}
 use Rattle.number.proofs.Within.{Within, within-units}
-use Rattle.polynomial_root.specs.Quadratic.{two32}
-use Rattle.polynomial_root.specs.Cubic.{three32}
+use Rattle.polynomial_root.specs.Roots.{two32, three32}
 use Rattle.polynomial_root.proofs.Zeros.{zero-eq}
 use Rattle.polynomial_root.proofs.Differences.{zero-of, pos-of, units-of, no-overflow}
 

@@ -7,12 +7,11 @@ use lib.Dec.{T, lit≤}
 use lib.Ieee.{Float, fin, binary32, neg, lt, le, eq, isNan, fits, ofBits}
 use lib.Ieee.Fits.{sub-fits}
 use lib.Ieee.Scale.{finite}
-use Rattle.number.specs.Number.{_⊕_, _⊖_, _⊗_, _⊘_, zero32, one32}
-use Rattle.number.specs.Root.{rootOf}
+use Rattle.number.specs.Number.{_⊕_, _⊖_, _⊗_, _⊘_, zero32, one32, rootOf}
 use Rattle.number.proofs.Within.{Within, within-finite, within-more, add-within, sub-within, mul-within}
 use Rattle.number.proofs.Comparing.{not-lt-le, lt-le}
 use Rattle.number.proofs.SquareRoot.Bounds.{root-within}
-use Rattle.polynomial_root.specs.Quadratic.{two32, four32, stable, inOrder, solved}
+use Rattle.polynomial_root.specs.Roots.{two32, four32, stable, inOrder, solved}
 use Rattle.polynomial_root.specs.declared.quadratic.Solved.{Solved}
 use Rattle.polynomial_root.specs.declared.quadratic.Solved.the-variants.{Neither, Both}
 use Rattle.polynomial_root.proofs.Orders.{test-true}

@@ -8,8 +8,7 @@ use lib.Seq.{getD-set-same, getD-set-other}
 use lib.Ieee.{Float, nan}
 use borrow.Author.Tests.{le-ltb, lt-ltb}
 use Rattle.number.specs.Number.{zero32, written}
-use Rattle.polynomial_root.specs.Quadratic.{refused, push}
-use Rattle.polynomial_root.specs.Finder.{Tidy, Each}
+use Rattle.polynomial_root.specs.Roots.{refused, push, Tidy, Each}
 use Rattle.polynomial_root.specs.declared.answer.Roots.{Roots}
 
 -- tidy, with a property of each root

@@ -13,9 +13,10 @@ use lib.Ieee.Fits.{add-fits}
 use Rattle.number.specs.Number.{_⊖_, _⊗_, _⊘_, zero32, one32, between, written}
 use Rattle.number.proofs.Answers.{admitted-keeps}
 use Rattle.number.proofs.Within.{Within, within-more}
-use Rattle.polynomial_root.specs.Quadratic.{none, refused, push, two32, solved}
-use Rattle.polynomial_root.specs.Cubic.{three32, valueAt, bothZero, vanishes, opposite, linearRoots, keep, keptRoots, lowerRoots, spanRoots, cubicRoots}
-use Rattle.polynomial_root.specs.Finder.{quadraticRefusal, cubicRefusal, solvedRoots, quadraticRoot, cubicRootsInRange, NoneOrTwo, rangeEnd}
+use Rattle.polynomial_root.specs.Roots.{none, refused, push, two32, solved, three32, valueAt, bothZero}
+use Rattle.polynomial_root.specs.Roots.{vanishes, opposite, linearRoots, keep, keptRoots, lowerRoots, spanRoots}
+use Rattle.polynomial_root.specs.Roots.{cubicRoots, quadraticRefusal, cubicRefusal, solvedRoots, quadraticRoot}
+use Rattle.polynomial_root.specs.Roots.{cubicRootsInRange, NoneOrTwo, rangeEnd}
 use Rattle.polynomial_root.specs.declared.answer.Roots.{Roots}
 use Rattle.polynomial_root.specs.declared.cubic.Cubic.{Cubic}
 use Rattle.polynomial_root.specs.declared.quadratic.Solved.{Solved}

@@ -8,14 +8,15 @@ use lib.Ieee.Fits.{and-i, and-l}
 use Rattle.number.specs.Number.{_⊖_, _⊗_, _⊘_, zero32, size, smaller, larger, between}
 use Rattle.number.proofs.Within.{Within, within-finite}
 use Rattle.number.proofs.Comparing.{lt-le}
-use Rattle.polynomial_root.specs.Quadratic.{none}
-use Rattle.polynomial_root.specs.Cubic.{valueAt, slopeAt, stepped, bothZero, descend, newtonSteps, started, endAt, spanRoot, start, partRoot, spanRoots}
+use Rattle.polynomial_root.specs.Roots.{none, valueAt, slopeAt, stepped, bothZero, descend, newtonSteps}
+use Rattle.polynomial_root.specs.Roots.{started, endAt, spanRoot, start, partRoot, spanRoots}
 use Rattle.polynomial_root.specs.declared.cubic.Cubic.{Cubic}
 use Rattle.polynomial_root.specs.declared.newton.Found.the-variants.{Root, Nothing, Refused}
 use Rattle.polynomial_root.specs.declared.quadratic.Solved.{Solved}
 use Rattle.polynomial_root.specs.declared.quadratic.Solved.the-variants.{Neither, Both}
 use Rattle.polynomial_root.specs.declared.span.End.{End}
-use Rattle.polynomial_root.proofs.Orders.{test-true, zero-in-range, written-in-range, clamp-in-range, within-range}
+use Rattle.polynomial_root.proofs.Orders.{test-true, zero-in-range, written-in-range, clamp-in-range}
+use Rattle.polynomial_root.proofs.Orders.{within-range}
 use Rattle.polynomial_root.proofs.Defined.{quotient-no-nan, difference-no-nan, value-within, slope-within}
 use Rattle.polynomial_root.proofs.Places.{Holds, refused-holds}
 use Rattle.polynomial_root.proofs.Gathered.{Gives, after-holds}

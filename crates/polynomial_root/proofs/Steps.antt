@@ -6,7 +6,7 @@ use mathlib.Core.Bool.{true, false}
 use lib.Ieee.{Float, lt}
 use Rattle.number.specs.Number.{_⊖_, _⊘_, zero32, size, clamp}
 use Rattle.number.proofs.Capped.{Capped, capped-spent, capped-ends, capped-goes-on}
-use Rattle.polynomial_root.specs.Cubic.{valueAt, slopeAt, bothZero, descend, newtonSteps}
+use Rattle.polynomial_root.specs.Roots.{valueAt, slopeAt, bothZero, descend, newtonSteps}
 use Rattle.polynomial_root.specs.declared.cubic.Cubic.{Cubic}
 use Rattle.polynomial_root.specs.declared.newton.Found.{Found, the-variants.Root, the-variants.Refused}
 

@@ -1,6 +1,6 @@
 // Which numbers a caller may hand over (docs/01-scope.md, "What callers hand over"): refusals 1 and 2.
 ghost use mathlib.Core.Path.{_≡_};
-ghost use Rattle.polynomial_root.specs.Finder as Def;
+ghost use Rattle.polynomial_root.specs.Roots as Def;
 use crate::cubic::Cubic;
 use number::range::above_zero_to_one;
 use number::range::in_bound;

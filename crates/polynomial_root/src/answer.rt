@@ -1,6 +1,6 @@
 // What the root finders answer (docs/01-scope.md, "Roots"): three places and a count stand in for the Vec.
 ghost use mathlib.Core.Path.{_≡_};
-ghost use Rattle.polynomial_root.specs.Quadratic as Def;
+ghost use Rattle.polynomial_root.specs.Roots as Def;
 use number::order::written;
 
 // The roots in the first `count` places, zero in the others; `refusal` 0, or the number of a refusal and no root.

@@ -1,7 +1,7 @@
 // The roots in 0..t of a polynomial of degree three at most, for any numbers (polynomial_root.rs,
 // `cubic_roots_in_range_zero_to_t`).
 ghost use mathlib.Core.Path.{_≡_};
-ghost use Rattle.polynomial_root.specs.Cubic as Def;
+ghost use Rattle.polynomial_root.specs.Roots as Def;
 use crate::answer::Roots;
 use crate::answer::push;
 use crate::answer::refused;

@@ -9,8 +9,8 @@ mod quadratic;
 mod span;
 
 ghost use mathlib.Core.Path.{_≡_};
-ghost use Rattle.polynomial_root.specs.Cubic.{cubicOf};
-ghost use Rattle.polynomial_root.specs.Finder.{Tidy, NoNan, NoneOrTwo, InRange, rangeEnd, quadraticRoot, cubicRootsInRange};
+ghost use Rattle.polynomial_root.specs.Roots.{cubicOf, Tidy, NoNan, NoneOrTwo, InRange, rangeEnd};
+ghost use Rattle.polynomial_root.specs.Roots.{quadraticRoot, cubicRootsInRange};
 use admission::admit_cubic;
 use admission::admit_quadratic;
 use answer::Roots;

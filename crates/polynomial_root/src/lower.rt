@@ -3,8 +3,7 @@
 ghost use mathlib.Core.Path.{_≡_};
 ghost use mathlib.Core.Bool.{cond};
 ghost use Rattle.number.specs.Number.{zero32};
-ghost use Rattle.polynomial_root.specs.Cubic as Def;
-ghost use Rattle.polynomial_root.specs.Quadratic as Answer;
+ghost use Rattle.polynomial_root.specs.Roots as Def;
 use crate::answer::Roots;
 use crate::answer::push;
 use crate::answer::refused;
@@ -22,7 +21,7 @@ pub(crate) fn vanishes(c: f32) -> bool
 }
 
 fn constant_roots(c0: f32) -> Roots
-    ensures { λ r. ⌜ r ≡ cond (Def.vanishes c0) (Answer.push Answer.none zero32) Answer.none ⌝ }
+    ensures { λ r. ⌜ r ≡ cond (Def.vanishes c0) (Def.push Def.none zero32) Def.none ⌝ }
 {
     if vanishes(c0) {
         push(refused(0), 0.0)

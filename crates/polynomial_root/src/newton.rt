@@ -1,6 +1,6 @@
 // Newton's steps on a cubic (polynomial_root.rs, `eval_f` and the loop of `newton`).
 ghost use mathlib.Core.Path.{_≡_};
-ghost use Rattle.polynomial_root.specs.Cubic as Def;
+ghost use Rattle.polynomial_root.specs.Roots as Def;
 use crate::cubic::Cubic;
 use number::order::clamp;
 use number::order::size;

@@ -3,8 +3,7 @@ ghost use mathlib.Core.Path.{_≡_};
 ghost use mathlib.Core.Bool.{cond};
 ghost use lib.Ieee.{lt, neg};
 ghost use Rattle.number.specs.Number.{zero32, one32};
-ghost use Rattle.polynomial_root.specs.Quadratic as Def;
-ghost use Rattle.polynomial_root.specs.Finder as Called;
+ghost use Rattle.polynomial_root.specs.Roots as Def;
 use crate::answer::Roots;
 use crate::answer::push;
 use crate::answer::refused;
@@ -59,7 +58,7 @@ pub(crate) fn solve(c0: f32, c1: f32, c2: f32) -> Solved
 
 // The roots as an answer.
 pub(crate) fn all_roots(s: Solved) -> Roots
-    ensures { λ r. ⌜ r ≡ Called.solvedRoots s ⌝ }
+    ensures { λ r. ⌜ r ≡ Def.solvedRoots s ⌝ }
 {
     match s {
         Solved::Neither => refused(0),

@@ -1,6 +1,6 @@
 // The root in a span of 0..t (polynomial_root.rs, `newton`).
 ghost use mathlib.Core.Path.{_≡_};
-ghost use Rattle.polynomial_root.specs.Cubic as Def;
+ghost use Rattle.polynomial_root.specs.Roots as Def;
 use crate::cubic::Cubic;
 use crate::newton::Found;
 use crate::newton::descend;

@@ -11,7 +11,8 @@ use lib.Ieee.Fits.{and-l, and-r}
 use lib.Ieee.Bits.{is-true}
 use lib.ListN.{length, take, drop, length-append, length-drop, take-append-drop, drop-of-length-le}
 use lib.Seq.{drop-drop, length-take-le}
-use Rattle.scene.specs.Scene.{word, displacementsAt, pairAt, pointCount, pairCount, limitsAt, laidOut, arePairs, refused, sceneOf}
+use Rattle.scene.specs.Scene.{word, displacementsAt, pairAt, pointCount, pairCount, limitsAt, laidOut, arePairs}
+use Rattle.scene.specs.Scene.{refused, sceneOf}
 use Rattle.scene.specs.Spelled.{spell, sections, Joined, Spelled, Taken}
 use Rattle.scene.proofs.FourBytes.{Bytes, word-spelled, spell-dropped}
 

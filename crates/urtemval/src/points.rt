@@ -5,7 +5,7 @@ ghost use mathlib.Core.Path.{_≡_};
 ghost use Rattle.number.specs.Number.{answered};
 ghost use Rattle.admission.specs.Admission.{splitRefusal};
 ghost use Rattle.pair.specs.Points.{measured, normOf};
-ghost use Rattle.motion.specs.Scaling.{scalingOf, leaves};
+ghost use Rattle.motion.specs.Motion.{scalingOf, leaves};
 ghost use Rattle.urtemval.specs.Face as Def;
 use crate::answer;
 use crate::answer::Value;

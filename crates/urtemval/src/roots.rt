@@ -1,11 +1,9 @@
 // The square root, the two root finders, and the times at which a pair's four points lie in one plane
 // (`number::root::square_root`, `polynomial_root`, `motion::coplanar::coplanar_time_mat3x4`).
 ghost use mathlib.Core.Path.{_≡_};
-ghost use Rattle.number.specs.Number.{answered};
-ghost use Rattle.number.specs.Root.{rootOf, rootRefusal};
-ghost use Rattle.polynomial_root.specs.Cubic.{cubicOf};
-ghost use Rattle.polynomial_root.specs.Finder.{quadraticRoot, cubicRootsInRange};
-ghost use Rattle.motion.specs.Coplanar.{coplanarTimes};
+ghost use Rattle.number.specs.Number.{answered, rootOf, rootRefusal};
+ghost use Rattle.polynomial_root.specs.Roots.{cubicOf, quadraticRoot, cubicRootsInRange};
+ghost use Rattle.motion.specs.Motion.{coplanarTimes};
 ghost use Rattle.urtemval.specs.Face as Def;
 use crate::answer;
 use crate::answer::Value;

@@ -10,9 +10,13 @@ use Rattle.number.proofs.Alike.{Alike, lt-alike}
 use Rattle.geometry.specs.Geometry.{minus}
 use Rattle.distance.specs.declared.candidate.Nearest.{Nearest}
 use Rattle.distance.specs.declared.products.Products.{Products}
-use Rattle.distance.specs.Distance.{Candidates, fromTo, productsOf, pointSegment, segmentPoint, only, nearer, nearestFrom, edgesMeet, edgeInterior, edgeEdge, overFace, faceInterior, faceVertex, candidatesOf, nearestOf}
-use Rattle.distance.proofs.Alike.Vectors.{AlikeVec, AlikePoints, minus-alike, along-alike, dot-alike, lerp-alike, place-alike}
-use Rattle.distance.proofs.Alike.Products.{AlikeProducts, products-alike, be-minus-cd, cd-minus-be, ae-minus-bd, and-first, edges-meet-same, over-face-same}
+use Rattle.distance.specs.Distance.{Candidates, fromTo, productsOf, pointSegment, segmentPoint, only, nearer}
+use Rattle.distance.specs.Distance.{nearestFrom, edgesMeet, edgeInterior, edgeEdge, overFace, faceInterior}
+use Rattle.distance.specs.Distance.{faceVertex, candidatesOf, nearestOf}
+use Rattle.distance.proofs.Alike.Vectors.{AlikeVec, AlikePoints, minus-alike, along-alike, dot-alike}
+use Rattle.distance.proofs.Alike.Vectors.{lerp-alike, place-alike}
+use Rattle.distance.proofs.Alike.Products.{AlikeProducts, products-alike, be-minus-cd, cd-minus-be}
+use Rattle.distance.proofs.Alike.Products.{ae-minus-bd, and-first, edges-meet-same, over-face-same}
 
 record Near (a b : Nearest) : Type 0 where
   squared-alike : Alike (a .squared) (b .squared)

@@ -2,7 +2,8 @@
 -- on a segment (specs/Distance.antt) keep it. Assumes nothing.
 use mathlib.Core.List.{List}
 use lib.Ieee.{Float}
-use Rattle.number.proofs.Alike.{Alike, same, add-alike, sub-alike, mul-alike, div-alike, no-zero-eq, eq-alike, cond-alike, clamp-alike}
+use Rattle.number.proofs.Alike.{Alike, same, add-alike, sub-alike, mul-alike, div-alike, no-zero-eq, eq-alike}
+use Rattle.number.proofs.Alike.{cond-alike, clamp-alike}
 use Rattle.geometry.specs.Geometry.{at, col, minus, dot, along, lerpOf}
 use Rattle.distance.specs.Distance.{ratioAlong, placeOn}
 

@@ -10,8 +10,7 @@ use lib.Dec.{T, lt→ltb, eqb-refl, lit<}
 use lib.Arith.{lt-of-le-ne}
 use lib.Ieee.{Float, binary32, add, lt, eq, fits, toBits}
 use lib.Ieee.Fits.{mul-fits}
-use Rattle.number.specs.Number.{half32}
-use Rattle.number.specs.Halving.{midpoint, window, nextLower, nextUpper, repeats}
+use Rattle.number.specs.Number.{half32, midpoint, window, nextLower, nextUpper, repeats}
 use Rattle.number.proofs.Rounding.{rnd}
 use Rattle.number.proofs.Middle.{mid, mid-between}
 use Rattle.number.proofs.Units.{L, Is, plus, lt-is, eq-is, same-float}

@@ -2,8 +2,7 @@
 use mathlib.Core.Path.{_≡_, refl}
 use mathlib.Core.Bool.{Bool, true, false, cond}
 use lib.Ieee.{Float, lt}
-use Rattle.number.specs.Number.{zero32, isFinite, admitted}
-use Rattle.number.specs.Root.{rootOf, rootRefusal}
+use Rattle.number.specs.Number.{zero32, isFinite, admitted, rootOf, rootRefusal}
 use Rattle.number.proofs.SquareRoot.Argument.{not-finite, below}
 
 pub root-value : (x : Float) → admitted (rootRefusal x) (rootOf x) zero32 ≡ rootOf x

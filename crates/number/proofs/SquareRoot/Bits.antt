@@ -3,14 +3,16 @@ use mathlib.Core.Path.{_≡_, sym, ap, _∙_, subst}
 use mathlib.Core.Logic.{inl, inr}
 use mathlib.Core.Bool.{not}
 use Prim.Native.Nat.{ℕ, _+_, _-_, _*_, _/_, _%_, _^_, _≤_, _<_}
-use native.Mathlib.Nat.{le-trans, le-of-eq, lt-of-lt-of-le, lt-of-le-of-lt, lt-irrefl, eq-or-lt-of-le, add-sub-cancel, add-mul, one-mul, mul-assoc, mul-mul-mul-comm, mul-le-mul-right, mul-lt-mul-of-pos-right, mul-pos}
+use native.Mathlib.Nat.{le-trans, le-of-eq, lt-of-lt-of-le, lt-of-le-of-lt, lt-irrefl, eq-or-lt-of-le, add-sub-cancel}
+use native.Mathlib.Nat.{add-mul, one-mul, mul-assoc, mul-mul-mul-comm, mul-le-mul-right, mul-lt-mul-of-pos-right}
+use native.Mathlib.Nat.{mul-pos}
 use native.Mathlib.Omega.{arith}
 use lib.Dec.{T, not-T}
 use lib.Pow.{pow-add, pow-pos}
 use lib.Ieee.{Float, binary32, lt, ofBits}
-use Rattle.number.specs.Number.{zero32, isFinite, infBits}
-use Rattle.number.specs.Root.{unitsOf, twiceMiddle, twiceRootSquared, rootAtLeast, rootOf}
-use Rattle.number.specs.RootDigits.{RootBits, wholeOf}
+use Rattle.number.specs.Number.{zero32, isFinite, infBits, unitsOf, twiceMiddle, twiceRootSquared, rootAtLeast}
+use Rattle.number.specs.Number.{rootOf}
+use Rattle.number.specs.Inner.{RootBits, wholeOf}
 use Rattle.number.proofs.Numbers.{square-mono}
 use Rattle.number.proofs.Units.{L}
 use Rattle.number.proofs.Patterns.{val, weight, val-step}

@@ -3,15 +3,15 @@
 use mathlib.Core.Path.{_≡_, refl, sym, ap, _∙_, subst}
 use mathlib.Core.Bool.{Bool, true, false}
 use Prim.Native.Nat.{ℕ, _+_, _*_, _/_, _^_, _≤_, _<_, zero-le}
-use native.Mathlib.Nat.{le-trans, le-of-eq, le-of-lt, lt-of-lt-of-le, lt-of-le-of-lt, not-le-of-lt, mul-comm, mul-one, one-mul, mul-assoc, mul-mul-mul-comm, mul-pos, mul-le-mul-right, mul-le-mul-left}
+use native.Mathlib.Nat.{le-trans, le-of-eq, le-of-lt, lt-of-lt-of-le, lt-of-le-of-lt, not-le-of-lt, mul-comm, mul-one}
+use native.Mathlib.Nat.{one-mul, mul-assoc, mul-mul-mul-comm, mul-pos, mul-le-mul-right, mul-le-mul-left}
 use native.Mathlib.Omega.{arith}
 use lib.Dec.{T, lt→ltb, lit<}
 use lib.Pow.{pow-add, pow-pos, pow-mono, pow-lt, shl-lt}
 use lib.Ieee.{Float, fin, binary32, lt, fits, ofBits}
 use lib.Ieee.Bits.{ofBits-fits}
-use Rattle.number.specs.Number.{zero32, isFinite}
-use Rattle.number.specs.Root.{unitsOf, twiceRootSquared, rootOf}
-use Rattle.number.specs.RootDigits.{wholeOf}
+use Rattle.number.specs.Number.{zero32, isFinite, unitsOf, twiceRootSquared, rootOf}
+use Rattle.number.specs.Inner.{wholeOf}
 use Rattle.number.proofs.Numbers.{le-of-not-lt, square-back}
 use Rattle.number.proofs.Units.{L, Top, Is, Unit32, plus, zero-is, says-lt}
 use Rattle.number.proofs.Products.{Root}

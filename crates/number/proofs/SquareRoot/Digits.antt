@@ -5,7 +5,7 @@ use Prim.Native.Nat.{ℕ, _+_, _-_, _*_, _/_, _%_, _^_, _≤_, _<_}
 use native.Mathlib.Nat.{lt-of-lt-of-le, lt-of-le-of-lt, mul-le-mul, mul-le-mul-left, mul-lt-mul-of-pos-right}
 use native.Mathlib.Omega.{arith}
 use lib.Pow.{pow-mono, shl-lt, shl-exact}
-use Rattle.number.specs.RootDigits.{RootBits, wholeOf}
+use Rattle.number.specs.Inner.{RootBits, wholeOf}
 use Rattle.number.proofs.SquareRoot.Whole.{root-lt, square-even, square-odd, square-next}
 
 -- the number whose root is taken, as the code makes it

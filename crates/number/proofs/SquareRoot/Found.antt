@@ -9,9 +9,8 @@ use native.Mathlib.Omega.{arith}
 use native.Mathlib.Decide.{decLe}
 use lib.Dec.{T}
 use lib.Ieee.{Float, fin, binary32, lt, fits, ofBits, toBits}
-use Rattle.number.specs.Number.{zero32, isFinite, infBits}
-use Rattle.number.specs.Root.{unitsOf, rootOf}
-use Rattle.number.specs.RootDigits.{RootBits, wholeOf}
+use Rattle.number.specs.Number.{zero32, isFinite, infBits, unitsOf, rootOf}
+use Rattle.number.specs.Inner.{RootBits, wholeOf}
 use Rattle.number.proofs.Units.{L, shift, fin-false}
 use Rattle.number.proofs.Patterns.{weight}
 use Rattle.number.proofs.Neighbours.{bits-lt}

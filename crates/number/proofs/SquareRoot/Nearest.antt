@@ -1,18 +1,19 @@
--- The definition of the square root (specs/Root.antt) taken apart: the middles grow with the patterns, so every
+-- The definition of the square root (specs/Number.antt) taken apart: the middles grow with the patterns, so every
 -- pattern up to the nearest is reached and none after it, and the search finds it. Assumes nothing.
 use mathlib.Core.Path.{_≡_, sym, ap, _∙_, subst}
 use mathlib.Core.Logic.{_⊎_, inl, inr}
 use mathlib.Core.Bool.{Bool, true, false, cond, not, _&&_, _||_}
 use Prim.Native.Nat.{ℕ, zero, suc, _+_, _-_, _*_, _/_, _%_, _^_, _≤_, _<_, zero-le}
-use native.Mathlib.Nat.{lt-irrefl, le-of-eq, le-of-lt, lt-of-lt-of-le, lt-of-le-of-lt, lt-of-not-le, eq-or-lt-of-le, add-lt-add-of-le-of-lt, mul-div-cancel, pow-succ'}
+use native.Mathlib.Nat.{lt-irrefl, le-of-eq, le-of-lt, lt-of-lt-of-le, lt-of-le-of-lt, lt-of-not-le, eq-or-lt-of-le}
+use native.Mathlib.Nat.{add-lt-add-of-le-of-lt, mul-div-cancel, pow-succ'}
 use native.Mathlib.Omega.{arith}
 use native.Mathlib.Decide.{decLe}
 use lib.Dec.{T, ltb, eqb, ltb→lt, lt→ltb, eqb→eq, not-T, T-not}
 use lib.Ieee.{Float, fin, binary32, down, lt, ofBits}
 use lib.Ieee.Bits.{is-true, is-false}
 use lib.Ieee.Fits.{and-i, and-l, and-r, eq→eqb, down-pos}
-use Rattle.number.specs.Number.{zero32, isFinite, infBits}
-use Rattle.number.specs.Root.{unitsOf, twiceMiddle, twiceRootSquared, rootAtLeast, last, rootOf}
+use Rattle.number.specs.Number.{zero32, isFinite, infBits, unitsOf, twiceMiddle, twiceRootSquared, rootAtLeast}
+use Rattle.number.specs.Number.{last, rootOf}
 use Rattle.number.proofs.Numbers.{le-of-not-lt, square-mono}
 use Rattle.number.proofs.Units.{Is, size-is}
 use Rattle.number.proofs.Within.{or-l, or-r}

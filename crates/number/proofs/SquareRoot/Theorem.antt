@@ -5,15 +5,16 @@ use mathlib.Core.Path.{_≡_, sym, ap, _∙_, subst}
 use mathlib.Core.Logic.{_⊎_, inl, inr}
 use mathlib.Core.Bool.{true, false, not, true≢false}
 use Prim.Native.Nat.{ℕ, _+_, _-_, _*_, _%_, _^_, _≤_, _<_}
-use native.Mathlib.Nat.{le-refl, le-trans, le-of-eq, lt-of-lt-of-le, lt-irrefl, lt-of-not-le, le-antisymm, eq-or-lt-of-le, add-le-add, add-sub-cancel, mul-le-mul}
+use native.Mathlib.Nat.{le-refl, le-trans, le-of-eq, lt-of-lt-of-le, lt-irrefl, lt-of-not-le, le-antisymm}
+use native.Mathlib.Nat.{eq-or-lt-of-le, add-le-add, add-sub-cancel, mul-le-mul}
 use native.Mathlib.Omega.{arith}
 use native.Mathlib.Decide.{decLe}
 use lib.Dec.{T}
 use lib.Ieee.{Float, fin, binary32, lt, fits, ofBits, toBits}
 use lib.Ieee.Bits.{ofBits-fits, ofBits-toBits}
 use lib.Ieee.Exact.{HasValue}
-use Rattle.number.specs.Number.{zero32, isFinite, infBits}
-use Rattle.number.specs.Root.{unitsOf, twiceMiddle, twiceRootSquared, rootAtLeast, rootOf}
+use Rattle.number.specs.Number.{zero32, isFinite, infBits, unitsOf, twiceMiddle, twiceRootSquared, rootAtLeast}
+use Rattle.number.specs.Number.{rootOf}
 use Rattle.number.proofs.Numbers.{square-back}
 use Rattle.number.proofs.Units.{L, plus, shift, fin-false}
 use Rattle.number.proofs.Patterns.{val, val-lt, val-le, val-back, val-le-back, bits-back, bits-plus}

@@ -7,9 +7,7 @@ use lib.Ieee.{Float, binary32, fits}
 use borrow.Author.Needs.{needs}
 use Rattle.number.specs.Number.{zero32, between}
 use Rattle.number.proofs.Answers as by
-use Rattle.polynomial_root.specs.Quadratic.{refused}
-use Rattle.polynomial_root.specs.Cubic.{cubicOf}
-use Rattle.polynomial_root.specs.Finder.{cubicRootsInRange, Tidy, InRange, rangeEnd}
+use Rattle.polynomial_root.specs.Roots.{refused, cubicOf, cubicRootsInRange, Tidy, InRange, rangeEnd}
 use Rattle.polynomial_root.specs.declared.answer.Roots.{Roots}
 use Rattle.polynomial_root.proofs.Orders.{test-true}
 use Rattle.polynomial_root.proofs.Places.{Holds}

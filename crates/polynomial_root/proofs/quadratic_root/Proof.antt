@@ -4,8 +4,7 @@ use mathlib.Core.Bool.{true}
 use lib.Ieee.{Float, binary32, fits}
 use borrow.Author.Needs.{needs}
 use Rattle.number.proofs.Answers as by
-use Rattle.polynomial_root.specs.Quadratic.{refused}
-use Rattle.polynomial_root.specs.Finder.{quadraticRoot, Tidy, NoNan, NoneOrTwo}
+use Rattle.polynomial_root.specs.Roots.{refused, quadraticRoot, Tidy, NoNan, NoneOrTwo}
 use Rattle.polynomial_root.specs.declared.answer.Roots.{Roots}
 use Rattle.polynomial_root.proofs.Orders.{test-true}
 use Rattle.polynomial_root.proofs.Promised.{Quadratic, quadratic-promises}

@@ -6,7 +6,7 @@ use Prim.Native.Nat.{ℕ, _-_}
 use native.Mathlib.Omega.{arith}
 use borrow.Author.Needs.{needs}
 use lib.Ieee.{Float, eq}
-use Rattle.number.specs.Halving.{Halved, halve, midpoint, window}
+use Rattle.number.specs.Number.{Halved, halve, midpoint, window}
 use Rattle.number.proofs.Capped.{Capped, capped-start, capped-spent, capped-ends, capped-goes-on}
 use Rattle.ccd3.specs.SafeTime.{above, closing}
 use Rattle.ccd3.proofs.HalvingLoop.{halveFrom, Moved, halve-none, new-ends, halve-arrives, halve-goes-on}

@@ -8,14 +8,12 @@ use borrow.Author.Needs.{needs}
 use lib.Dec.{T}
 use lib.Ieee.{Float}
 use Rattle.number.specs.Number.{zero32, one32, between}
-use Rattle.polynomial_root.specs.Cubic.{vanishes}
-use Rattle.polynomial_root.specs.Finder.{Tidy, InRange, rangeEnd, cubicRootsInRange}
+use Rattle.polynomial_root.specs.Roots.{vanishes, Tidy, InRange, rangeEnd, cubicRootsInRange, refused}
 use Rattle.polynomial_root.specs.declared.answer.Roots.{Roots}
 use Rattle.polynomial_root.specs.declared.cubic.Cubic.{Cubic}
-use Rattle.polynomial_root.specs.Quadratic.{refused}
 use Rattle.polynomial_root.proofs.Places.{Holds, refused-holds}
 use Rattle.admission.specs.Admission.{finitePoints, motionRefusal}
-use Rattle.motion.specs.Coplanar.{motionCubic, coplanarTimes}
+use Rattle.motion.specs.Motion.{motionCubic, coplanarTimes}
 use Rattle.number.proofs.Answers as by
 use Rattle.motion.proofs.Coefficients.{coplanar-first}
 use Rattle.motion.proofs.coplanar.coplanar_time_mat3x4.Statement.{statement}

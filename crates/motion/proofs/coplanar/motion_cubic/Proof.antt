@@ -1,7 +1,7 @@
 -- `motion::coplanar::motion_cubic` meets its contract. Assumes nothing.
 use mathlib.Core.Path.{_∙_}
 use borrow.Author.Needs.{needs}
-use Rattle.motion.specs.Coplanar.{volume, motionCubic}
+use Rattle.motion.specs.Motion.{volume, motionCubic}
 use Rattle.motion.proofs.coplanar.motion_cubic.Statement.{statement}
 use Rattle.motion.proofs.coplanar.motion_cubic.Tie as tie
 

@@ -1,6 +1,6 @@
 -- `motion::coplanar::volume` meets its contract. Assumes nothing.
 use borrow.Author.Needs.{needs}
-use Rattle.motion.specs.Coplanar.{volume}
+use Rattle.motion.specs.Motion.{volume}
 use Rattle.motion.proofs.coplanar.volume.Statement.{statement}
 use Rattle.motion.proofs.coplanar.volume.Tie as tie
 

@@ -6,8 +6,9 @@ use mathlib.Core.Path.{sym, subst}
 use mathlib.Core.Bool.{Bool, not}
 use lib.Dec.{T}
 use lib.Ieee.{lt}
-use Rattle.motion.specs.Scaling.{eight32, mostEights, factorsOf}
-use Rattle.motion.proofs.Eighths.{Left, left-start, left-more, left-next, Turned, turned-start, turned-next, turned-stop}
+use Rattle.motion.specs.Motion.{eight32, mostEights, factorsOf}
+use Rattle.motion.proofs.Eighths.{Left, left-start, left-more, left-next, Turned, turned-start, turned-next}
+use Rattle.motion.proofs.Eighths.{turned-stop}
 use Rattle.motion.proofs.factors.eighths.Statement.{statement}
 use Rattle.motion.proofs.factors.eighths.Tie as tie
 

@@ -1,6 +1,6 @@
 -- `motion::factors::larger_entry` meets its contract. Assumes nothing.
 use borrow.Author.Needs.{needs}
-use Rattle.motion.specs.Scaling.{largerEntry}
+use Rattle.motion.specs.Motion.{largerEntry}
 use Rattle.motion.proofs.factors.larger_entry.Statement.{statement}
 use Rattle.motion.proofs.factors.larger_entry.Tie as tie
 

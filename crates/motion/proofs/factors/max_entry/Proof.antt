@@ -7,7 +7,7 @@ use mathlib.Core.List.{List, foldl}
 use lib.Ieee.{Float}
 use borrow.Author.Needs.{needs}
 use Rattle.geometry.specs.Geometry.{col, count}
-use Rattle.motion.specs.Scaling.{largerColumn, maxEntry}
+use Rattle.motion.specs.Motion.{largerColumn, maxEntry}
 use Rattle.geometry.proofs.CrossPairs.{count-next, count-done}
 use Rattle.motion.proofs.factors.max_entry.Statement.{statement}
 use Rattle.motion.proofs.factors.max_entry.Tie as tie

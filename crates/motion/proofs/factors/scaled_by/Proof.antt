@@ -8,7 +8,7 @@ use lib.Ieee.{Float}
 use borrow.Author.Needs.{needs}
 use Rattle.number.proofs.Capped.{Capped, capped-start, capped-goes-on, capped-spent}
 use Rattle.geometry.specs.Geometry.{scaled}
-use Rattle.motion.specs.Scaling.{eightfold, scaledBy}
+use Rattle.motion.specs.Motion.{eightfold, scaledBy}
 use Rattle.motion.proofs.factors.scaled_by.Statement.{statement}
 use Rattle.motion.proofs.factors.scaled_by.Tie as tie
 

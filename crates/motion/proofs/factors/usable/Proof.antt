@@ -1,6 +1,6 @@
 -- `motion::factors::usable` meets its contract. Assumes nothing.
 use borrow.Author.Needs.{needs}
-use Rattle.motion.specs.Scaling.{usable}
+use Rattle.motion.specs.Motion.{usable}
 use Rattle.motion.proofs.factors.usable.Statement.{statement}
 use Rattle.motion.proofs.factors.usable.Tie as tie
 

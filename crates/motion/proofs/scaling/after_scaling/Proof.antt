@@ -50,7 +50,7 @@ use Rattle.number.proofs.answer.Answered as N
 use Rattle.number.proofs.answer.Answered.Laws as N′
 use Rattle.motion.specs.declared.record.Pair.{Pair}
 use Rattle.motion.specs.declared.scaling.Scaled.{Scaled}
-use Rattle.motion.specs.Scaling.{Scales}
+use Rattle.motion.specs.Motion.{Scales}
 use Rattle.motion.proofs.Lent.{pairVal, IsPair, IsAnswer}
 use Rattle.motion.proofs.record.Pair as T
 use Rattle.motion.proofs.record.Pair.Laws as T′

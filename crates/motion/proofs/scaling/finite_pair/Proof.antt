@@ -1,6 +1,6 @@
 -- `motion::scaling::finite_pair` meets its contract. Assumes nothing.
 use borrow.Author.Needs.{needs}
-use Rattle.motion.specs.Scaling.{finitePair}
+use Rattle.motion.specs.Motion.{finitePair}
 use Rattle.motion.proofs.scaling.finite_pair.Statement.{statement}
 use Rattle.motion.proofs.scaling.finite_pair.Tie as tie
 

@@ -1,6 +1,6 @@
 -- `motion::scaling::first_factor` meets its contract. Assumes nothing.
 use borrow.Author.Needs.{needs}
-use Rattle.motion.specs.Scaling.{firstFactor}
+use Rattle.motion.specs.Motion.{firstFactor}
 use Rattle.motion.proofs.scaling.first_factor.Statement.{statement}
 use Rattle.motion.proofs.scaling.first_factor.Tie as tie
 

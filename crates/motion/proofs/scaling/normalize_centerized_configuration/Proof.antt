@@ -52,7 +52,8 @@ use Rattle.number.proofs.answer.Answered as N
 use Rattle.number.proofs.answer.Answered.Laws as N′
 use Rattle.motion.specs.declared.record.Pair.{Pair}
 use Rattle.motion.specs.declared.scaling.Outcome.{Outcome}
-use Rattle.motion.specs.Scaling.{scalingOf, leaves, outcome}
+use Rattle.motion.specs.Motion.{scalingOf, leaves}
+use Rattle.motion.specs.Inner.{outcome}
 use Rattle.motion.proofs.Scalings.{scales}
 use Rattle.motion.proofs.Lent.{pairVal, answerVal, outcomeVal, IsPair, IsAnswer, part, owes, answered, stored}
 use Rattle.motion.proofs.Lent.{left}

@@ -8,7 +8,7 @@ use lib.Ieee.Fits.{and-l}
 use borrow.Author.Needs.{needs}
 use borrow.Author.Tests.{not-true, not-false}
 use Rattle.number.specs.Number.{zero32, isFinite}
-use Rattle.motion.specs.Scaling.{usable}
+use Rattle.motion.specs.Motion.{usable}
 use Rattle.motion.proofs.Outcomes.{by-admission, by-use, by-size, by-none}
 use Rattle.motion.proofs.scaling.scaled_pair.Statement.{statement}
 use Rattle.motion.proofs.scaling.scaled_pair.Tie as tie

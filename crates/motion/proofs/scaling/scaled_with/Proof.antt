@@ -5,7 +5,7 @@ use lib.Ieee.{Float}
 use borrow.Author.Needs.{needs}
 use Rattle.motion.specs.declared.record.Pair.{Pair}
 use Rattle.motion.specs.declared.factors.Factors.{Factors}
-use Rattle.motion.specs.Scaling.{scaledBy, scaledWith}
+use Rattle.motion.specs.Motion.{scaledBy, scaledWith}
 use Rattle.motion.proofs.scaling.scaled_with.Statement.{statement}
 use Rattle.motion.proofs.scaling.scaled_with.Tie as tie
 

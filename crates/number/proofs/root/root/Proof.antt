@@ -7,7 +7,7 @@ use borrow.Author.Needs.{needs}
 use lib.Dec.{T}
 use lib.Ieee.{binary32, fits, lt, toBits}
 use Rattle.number.specs.Number.{zero32, infBits}
-use Rattle.number.specs.RootDigits.{RootBits}
+use Rattle.number.specs.Inner.{RootBits}
 use Rattle.number.proofs.Patterns.{weight, no-nan-bits}
 use Rattle.number.proofs.NoNan.{no-nan-lt}
 use Rattle.number.proofs.SquareRoot.Bits.{bits-lt, root-is}

@@ -4,7 +4,7 @@ use mathlib.Core.Path.{_≡_, sym, _∙_, subst}
 use Prim.Native.Nat.{ℕ, _+_, _*_, _^_, _<_}
 use native.Mathlib.Omega.{arith}
 use borrow.Author.Needs.{needs}
-use Rattle.number.specs.RootDigits.{wholeOf}
+use Rattle.number.specs.Inner.{wholeOf}
 use Rattle.number.proofs.SquareRoot.Digits.{code-whole, whole-lt, root-high, up, down}
 use Rattle.number.proofs.root.root_bits.Statement.{statement}
 use Rattle.number.proofs.root.root_bits.Tie as tie

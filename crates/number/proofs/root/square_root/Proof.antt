@@ -4,8 +4,7 @@ use borrow.Author.Needs.{needs}
 use lib.Ieee.{Float}
 use Rattle.number.specs.declared.answer.Answered.{Answered}
 use Rattle.number.specs.declared.answer.Answered.the-variants.{Value, Refused}
-use Rattle.number.specs.Number.{refusalOf, valueOf, answered}
-use Rattle.number.specs.Root.{rootOf, rootRefusal}
+use Rattle.number.specs.Number.{refusalOf, valueOf, answered, rootOf, rootRefusal}
 use Rattle.number.proofs.Answers as Answers
 use Rattle.number.proofs.SquareRoot.Answer.{root-value}
 use Rattle.number.proofs.root.square_root.Statement.{statement}

@@ -1,7 +1,7 @@
 -- `polynomial_root::answer::push` meets its contract: full, or one root more. Assumes nothing.
 use borrow.Author.Needs.{needs}
 use borrow.Author.Tests.{le-ltb, lt-ltb}
-use Rattle.polynomial_root.specs.Quadratic.{push}
+use Rattle.polynomial_root.specs.Roots.{push}
 use Rattle.polynomial_root.proofs.answer.push.Statement.{statement}
 use Rattle.polynomial_root.proofs.answer.push.Tie as tie
 

@@ -1,7 +1,7 @@
 -- `polynomial_root::cubic::after` meets its contract, by either way through its test. Assumes nothing.
 use borrow.Author.Needs.{needs}
 use borrow.Author.Tests.{eq-eqb, ne-eqb}
-use Rattle.polynomial_root.specs.Cubic.{after}
+use Rattle.polynomial_root.specs.Roots.{after}
 use Rattle.polynomial_root.proofs.cubic.after.Statement.{statement}
 use Rattle.polynomial_root.proofs.cubic.after.Tie as tie
 

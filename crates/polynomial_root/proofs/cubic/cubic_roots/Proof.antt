@@ -1,7 +1,7 @@
 -- `polynomial_root::cubic::cubic_roots` meets its contract, by either way through the test of the degree. Assumes
 -- nothing.
 use borrow.Author.Needs.{needs}
-use Rattle.polynomial_root.specs.Cubic.{cubicRoots}
+use Rattle.polynomial_root.specs.Roots.{cubicRoots}
 use Rattle.polynomial_root.proofs.cubic.cubic_roots.Statement.{statement}
 use Rattle.polynomial_root.proofs.cubic.cubic_roots.Tie as tie
 

@@ -1,6 +1,6 @@
 -- `polynomial_root::cubic::joined` meets its contract, in the three cases. Assumes nothing.
 use borrow.Author.Needs.{needs}
-use Rattle.polynomial_root.specs.Cubic.{joined}
+use Rattle.polynomial_root.specs.Roots.{joined}
 use Rattle.polynomial_root.proofs.cubic.joined.Statement.{statement}
 use Rattle.polynomial_root.proofs.cubic.joined.Tie as tie
 

@@ -1,6 +1,6 @@
 -- `polynomial_root::cubic::span_roots` meets its contract, in both cases. Assumes nothing.
 use borrow.Author.Needs.{needs}
-use Rattle.polynomial_root.specs.Cubic.{spanRoots}
+use Rattle.polynomial_root.specs.Roots.{spanRoots}
 use Rattle.polynomial_root.proofs.cubic.span_roots.Statement.{statement}
 use Rattle.polynomial_root.proofs.cubic.span_roots.Tie as tie
 

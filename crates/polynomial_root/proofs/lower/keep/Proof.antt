@@ -1,6 +1,6 @@
 -- `polynomial_root::lower::keep` meets its contract, by either way through its test. Assumes nothing.
 use borrow.Author.Needs.{needs}
-use Rattle.polynomial_root.specs.Cubic.{keep}
+use Rattle.polynomial_root.specs.Roots.{keep}
 use Rattle.polynomial_root.proofs.lower.keep.Statement.{statement}
 use Rattle.polynomial_root.proofs.lower.keep.Tie as tie
 

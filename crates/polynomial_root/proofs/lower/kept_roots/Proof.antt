@@ -1,6 +1,6 @@
 -- `polynomial_root::lower::kept_roots` meets its contract, in both cases. Assumes nothing.
 use borrow.Author.Needs.{needs}
-use Rattle.polynomial_root.specs.Cubic.{keptRoots}
+use Rattle.polynomial_root.specs.Roots.{keptRoots}
 use Rattle.polynomial_root.proofs.lower.kept_roots.Statement.{statement}
 use Rattle.polynomial_root.proofs.lower.kept_roots.Tie as tie
 

@@ -1,6 +1,6 @@
 -- `polynomial_root::lower::linear_roots` meets its contract, by each way through its tests. Assumes nothing.
 use borrow.Author.Needs.{needs}
-use Rattle.polynomial_root.specs.Cubic.{linearRoots}
+use Rattle.polynomial_root.specs.Roots.{linearRoots}
 use Rattle.polynomial_root.proofs.lower.linear_roots.Statement.{statement}
 use Rattle.polynomial_root.proofs.lower.linear_roots.Tie as tie
 

@@ -1,7 +1,7 @@
 -- `polynomial_root::lower::lower_roots` meets its contract, by each way through the tests of the degree. Assumes
 -- nothing.
 use borrow.Author.Needs.{needs}
-use Rattle.polynomial_root.specs.Cubic.{lowerRoots}
+use Rattle.polynomial_root.specs.Roots.{lowerRoots}
 use Rattle.polynomial_root.proofs.lower.lower_roots.Statement.{statement}
 use Rattle.polynomial_root.proofs.lower.lower_roots.Tie as tie
 

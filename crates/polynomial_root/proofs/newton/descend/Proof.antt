@@ -4,7 +4,7 @@ use Prim.Native.Nat.{_-_, _<_}
 use native.Mathlib.Omega.{arith}
 use borrow.Author.Needs.{needs}
 use Rattle.number.proofs.Capped.{capped-start}
-use Rattle.polynomial_root.specs.Cubic.{descend, newtonSteps}
+use Rattle.polynomial_root.specs.Roots.{descend, newtonSteps}
 use Rattle.polynomial_root.proofs.Steps.{Stands, out-of-steps, stops, refuses, goes-on}
 use Rattle.polynomial_root.proofs.newton.descend.Statement.{statement}
 use Rattle.polynomial_root.proofs.newton.descend.Tie as tie

@@ -1,6 +1,6 @@
 -- `polynomial_root::quadratic::all_roots` meets its contract, in both cases. Assumes nothing.
 use borrow.Author.Needs.{needs}
-use Rattle.polynomial_root.specs.Finder.{solvedRoots}
+use Rattle.polynomial_root.specs.Roots.{solvedRoots}
 use Rattle.polynomial_root.proofs.quadratic.all_roots.Statement.{statement}
 use Rattle.polynomial_root.proofs.quadratic.all_roots.Tie as tie
 

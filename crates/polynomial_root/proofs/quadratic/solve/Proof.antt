@@ -1,6 +1,6 @@
 -- `polynomial_root::quadratic::solve` meets its contract: no root, or two, by the test of the sum. Assumes nothing.
 use borrow.Author.Needs.{needs}
-use Rattle.polynomial_root.specs.Quadratic.{solved}
+use Rattle.polynomial_root.specs.Roots.{solved}
 use Rattle.polynomial_root.proofs.quadratic.solve.Statement.{statement}
 use Rattle.polynomial_root.proofs.quadratic.solve.Tie as tie
 

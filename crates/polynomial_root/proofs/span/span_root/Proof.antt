@@ -1,6 +1,6 @@
 -- `polynomial_root::span::span_root` meets its contract, by each way through its tests. Assumes nothing.
 use borrow.Author.Needs.{needs}
-use Rattle.polynomial_root.specs.Cubic.{spanRoot}
+use Rattle.polynomial_root.specs.Roots.{spanRoot}
 use Rattle.polynomial_root.proofs.span.span_root.Statement.{statement}
 use Rattle.polynomial_root.proofs.span.span_root.Tie as tie
 

@@ -1,6 +1,6 @@
 -- `polynomial_root::span::started` meets its contract, by either way through its test. Assumes nothing.
 use borrow.Author.Needs.{needs}
-use Rattle.polynomial_root.specs.Cubic.{started}
+use Rattle.polynomial_root.specs.Roots.{started}
 use Rattle.polynomial_root.proofs.span.started.Statement.{statement}
 use Rattle.polynomial_root.proofs.span.started.Tie as tie
 

@@ -5,7 +5,7 @@ use lib.Ieee.{Float}
 use borrow.Author.Needs.{needs}
 use Rattle.motion.specs.declared.record.Pair.{Pair}
 use Rattle.motion.specs.declared.scaling.Scaled.{Scaled}
-use Rattle.motion.specs.Scaling.{scalingOf, leaves, Scales}
+use Rattle.motion.specs.Motion.{scalingOf, leaves, Scales}
 use Rattle.motion.proofs.Scalings.{refused-stands}
 use Rattle.urtemval.specs.declared.answer.Value.{Value}
 use Rattle.urtemval.specs.Face.{told, pairOf}

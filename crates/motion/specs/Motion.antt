@@ -1,15 +1,16 @@
--- Scaling a pair (docs/01-scope.md, "Scaling a pair", "Refusal numbers"; ccd3.rs:
--- `normalize_centerized_configuration`). Definitions only.
+-- Scaling a pair, and the times at which its four points lie in one plane (docs/01-scope.md, "Scaling a pair", "Roots",
+-- "Refusal numbers"; ccd3.rs: `normalize_centerized_configuration`). Definitions only.
 use Prim.Native.Nat.{ℕ, zero, suc}
-use mathlib.Core.Path.{_≡_}
-use mathlib.Core.Bool.{Bool, true, false, _&&_, cond}
-use mathlib.Core.List.{List, foldl}
-use lib.{Dec.T, Dec.eqb, Ieee.Float, Ieee.binary32, Ieee.lt, Ieee.ofBits}
-use Rattle.number.specs.Number.{_⊕_, _⊗_, _⊘_, zero32, one32, size, larger, isFinite, refusalOf, valueOf, admitted, answered}
-use Rattle.number.specs.declared.answer.Answered.{Answered, the-variants.Refused}
-use Rattle.geometry.specs.Geometry.{at, col, scaled, count}
-use Rattle.admission.specs.Admission.{finitePoints, timeRefusal}
-use Rattle.motion.specs.declared.{factors.Factors.Factors, record.Pair.Pair, scaling.Outcome.Outcome}
+use mathlib.Core.{Path._≡_, Bool.Bool, Bool.true, Bool.false, Bool._&&_, Bool.cond, List.List, List.foldl}
+use lib.{Dec.T, Ieee.Float, Ieee.binary32, Ieee.lt, Ieee.ofBits}
+use Rattle.number.specs.Number.{_⊕_, _⊗_, _⊘_, zero32, one32, size, larger, isFinite}
+use Rattle.number.specs.Number.{refusalOf, valueOf, admitted, answered}
+use Rattle.number.specs.declared.answer.Answered.{Answered}
+use Rattle.geometry.specs.Geometry.{at, col, minus, triple, scaled, count}
+use Rattle.polynomial_root.specs.Roots.{orRefused, cubicOf, cubicRootsInRange}
+use Rattle.polynomial_root.specs.declared.{answer.Roots.Roots, cubic.Cubic.Cubic}
+use Rattle.admission.specs.Admission.{finitePoints, timeRefusal, motionRefusal}
+use Rattle.motion.specs.declared.{factors.Factors.Factors, record.Pair.Pair}
 
 -- ---- the factors
 -- the largest so far, after |x| and |x + t dx| at one place, and at the three places of a column
@@ -98,10 +99,20 @@ pub record Scales (p : Pair) (t : Float) (a : Answered) (q : Pair) : Type 0 wher
   pub value : valueOf a ≡ admitted (scalingRefusal p t) (factorsFor p t .product) zero32
   pub finite : refusalOf a ≡ 0 → T (finitePair q)
 
--- a refused pair stays as it was
-abbrev pub refusedBy : Pair → ℕ → Outcome
-refusedBy p n = record { taken = false; answer = Refused n; pair = p }
+-- ---- the times from 0 to 1 at which the four points lie in one plane
+-- the volume spanned by three edges x1, x2, x3 that move by v1, v2, v3, as a cubic of the time
+unfoldable pub volume : List Float → List Float → List Float → List Float → List Float → List Float → Cubic
+volume x1 x2 x3 v1 v2 v3 =
+    cubicOf (triple x3 x1 x2) (triple v3 x1 x2 ⊕ triple x3 v1 x2 ⊕ triple x3 x1 v2)
+    (triple v3 v1 x2 ⊕ triple v3 x1 v2 ⊕ triple x3 v1 v2) (triple v3 v1 v2)
 
--- both together, and whether the scaled pair is taken
-unfoldable pub outcome : Pair → Float → Outcome
-outcome p t = record { taken = eqb (scalingRefusal p t) 0; answer = scalingOf p t; pair = leaves p t }
+-- column i as seen from column 0
+abbrev pub edge : List (List Float) → ℕ → List Float
+edge x i = minus (col x i) (col x 0)
+
+unfoldable pub motionCubic : List (List Float) → List (List Float) → Cubic
+motionCubic x dx = volume (edge x 1) (edge x 2) (edge x 3) (edge dx 1) (edge dx 2) (edge dx 3)
+
+-- the roots of that cubic in 0..1, with epsilon 0; a coefficient beyond the bound is refused by 2
+unfoldable pub coplanarTimes : List (List Float) → List (List Float) → Roots
+coplanarTimes x dx = orRefused (motionRefusal x dx) (cubicRootsInRange (motionCubic x dx) one32 zero32)
