@@ -19,7 +19,7 @@ use Rattle.geometry.proofs.Bounds.{Each}
 use Rattle.geometry.specs.Geometry.{at, col}
 use Rattle.admission.specs.declared.Limits.{Limits}
 use Rattle.admission.specs.Admission.{ofThree, ofTwelve, finitePoints, boundedPoints, isSplit, finiteLimits}
-use Rattle.admission.specs.Admission.{rangedLimits, finiteWalk, rangedWalk, walkRefusal, pointsRefusal}
+use Rattle.admission.specs.Admission.{rangedLimits, walkRefusal, pointsRefusal}
 use Rattle.admission.specs.Admission.{splitRefusal, factorRefusal, motionRefusal, timeRefusal, ratioRefusal}
 
 -- ---- the numbers of four points, by column and place
@@ -118,6 +118,13 @@ pub record Walkable (x dx : List (List Float)) (split : ℕ) (l : Limits) : Type
   pub max-t : T (zeroToOne (l .«max_t»))
   pub u-max : T (speedRange (l .«u_max»))
   pub parts : (split ≡ 2) ⊎ (split ≡ 3)
+
+-- the two tests: its numbers are finite, and lie in their ranges
+abbrev pub finiteWalk : List (List Float) → List (List Float) → Limits → Bool
+finiteWalk x dx l = finitePoints x && finitePoints dx && finiteLimits l
+
+abbrev pub rangedWalk : List (List Float) → List (List Float) → ℕ → Limits → Bool
+rangedWalk x dx split l = boundedPoints x && boundedPoints dx && rangedLimits l && isSplit split
 
 module _ (x dx : List (List Float)) (split : ℕ) (l : Limits) where
   pub walk-admits : walkRefusal x dx split l ≡ 0 → Walkable x dx split l

@@ -35,14 +35,10 @@ rangedLimits l =
     zeroToBound (l .offset) && zeroToBound (l .clearance) && zeroToOne (l .«max_t») && speedRange (l .«u_max»)
 
 -- a safe time: the 24 numbers of a pair, its split, its limits
-abbrev pub finiteWalk : List (List Float) → List (List Float) → Limits → Bool
-finiteWalk x dx l = finitePoints x && finitePoints dx && finiteLimits l
-
-abbrev pub rangedWalk : List (List Float) → List (List Float) → ℕ → Limits → Bool
-rangedWalk x dx split l = boundedPoints x && boundedPoints dx && rangedLimits l && isSplit split
-
 unfoldable pub walkRefusal : List (List Float) → List (List Float) → ℕ → Limits → ℕ
-walkRefusal x dx split l = refusal (finiteWalk x dx l) (rangedWalk x dx split l)
+walkRefusal x dx split l =
+    refusal (finitePoints x && finitePoints dx && finiteLimits l)
+    (boundedPoints x && boundedPoints dx && rangedLimits l && isSplit split)
 
 -- four points; four points and their split, as a norm and a distance take them
 unfoldable pub pointsRefusal : List (List Float) → ℕ

@@ -16,7 +16,7 @@ use Rattle.number.proofs.Products.{mul-is, sum-mono, above-square, Root, root-a
 use Rattle.number.proofs.Rounding.{rnd, Rep, rnd-mono, rnd-fix, rnd-rep}
 use Rattle.number.proofs.Sums.{add-is}
 use Rattle.number.proofs.Sums.Rounded.{add-opens, sum-ff, sum-ft}
-use Rattle.number.proofs.Units.{Unit32, plus, of-float}
+use Rattle.number.proofs.Units.{bound-is, Unit32, plus, of-float}
 use Rattle.number.proofs.Units.Compared.{L, Is, left, right, lt-says, says-lt, le-says}
 use Rattle.admission.specs.declared.Limits.{Limits}
 use Rattle.ccd3.specs.SafeTime.{park, dip, plain}
@@ -31,7 +31,7 @@ use Rattle.ccd3.proofs.Growth.{Sound}
 
 -- 2 ^ 20 in units
 abbrev pub Most : ℕ
-Most = 2 ^ 169
+Most = 2 ^ 20 * L
 
 half-units : Is half32 (2 ^ 148)
 unfolding ofBits
@@ -130,15 +130,11 @@ module _ (l : Limits) (d root : Float) (u w v R : ℕ) (io : Unit32 (l .offset) 
 from-zero : (x : Float) → T (zeroToBound x) → T (le zero32 x)
 from-zero x h = and-l (le zero32 x) (le x bound) h
 
-limit-is : Is bound Most
-unfolding ofBits
-limit-is = refl
-
 -- a number from 0 to 2 ^ 20, in units
 limited : (x : Float) → T (fits binary32 x) → T (zeroToBound x) → (u : ℕ) × Unit32 x u × (u ≤ Most)
 limited x f h =
     let i = of-float x f (within-finite 20 x (zero-to-bound x h .1)) (from-zero x h) in
-    (i .0, i .1, le-says x bound (i .0) Most (i .1 .is) limit-is (and-r (le zero32 x) (le x bound) h))
+    (i .0, i .1, le-says x bound (i .0) Most (i .1 .is) bound-is (and-r (le zero32 x) (le x bound) h))
 
 positive-of : (u : Float) → T (lt zero32 u) → T (finite u) → T (positive u)
 unfolding lt ofBits
@@ -172,6 +168,9 @@ pub record Given (l : Limits) : Type 0 where
   pub offset-in : T (zeroToBound (l .offset))
   pub clearance-in : T (zeroToBound (l .clearance))
   pub speed-in : T (speedRange (l .«u_max»))
+
+abbrev pub squaredOffset : Limits → Float
+squaredOffset l = l .offset ⊗ l .offset
 
 module _ (l : Limits) (g : Given l) where
   dip-within : Within 21 (dip l)

@@ -16,7 +16,7 @@ use Rattle.number.proofs.Comparing.{not-lt-le}
 use Rattle.number.proofs.NoNan.{no-nan-le}
 use Rattle.number.proofs.Signs.{plus-up}
 use Rattle.number.proofs.Transitive.{le-lt-trans, lt-not-le}
-use Rattle.number.proofs.Units.{Unit32, plus, of-float, of-range, same-float}
+use Rattle.number.proofs.Units.{one-is, Unit32, plus, of-float, of-range, same-float}
 use Rattle.number.proofs.Units.Compared.{L, Is, finite-is, le-says, says-le, says-lt}
 use Rattle.number.proofs.Ranges.{zero-to-one}
 use Rattle.number.proofs.Within.{within-finite}
@@ -26,10 +26,6 @@ use Rattle.admission.specs.declared.Limits.{Limits}
 use Rattle.ccd3.specs.SafeTime.{Visit, stepFrom, next, squaredAt, above, start, visit}
 use Rattle.ccd3.proofs.Bracket.{Timely, Bracket}
 use Rattle.ccd3.proofs.Growth.{Sound, next-later, next-fits}
-
-one-is : Is one32 L
-unfolding ofBits
-one-is = refl
 
 number : {d : Float} → Sound d → T (not (isNan d))
 number {d} s = no-nan-le zero32 d (plus-up d (s .sign)) .1

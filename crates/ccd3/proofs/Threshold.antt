@@ -1,7 +1,7 @@
 -- The safe time's threshold (specs/SafeTime.antt), the squared park distance: a start that is neither touching nor
 -- between offset and park is above it, and no step from above it is below zero. Assumes nothing.
-use mathlib.Core.Path.{_≡_, refl, sym, subst}
-use mathlib.Core.Bool.{Bool, true, false, _||_, true≢false}
+use mathlib.Core.Path.{_≡_, sym, subst}
+use mathlib.Core.Bool.{true, false}
 use mathlib.Core.List.{List}
 use Prim.Native.Nat.{ℕ, _≤_, _<_}
 use native.Mathlib.Omega.{arith}
@@ -9,24 +9,17 @@ use lib.Dec.{T}
 use lib.Ieee.{Float, lt, le, eq}
 use lib.Ieee.Bits.{is-true}
 use lib.Ieee.Fits.{and-i, eq→eqb}
+use Rattle.number.proofs.Comparing.{or-left, or-right}
 use Rattle.number.proofs.Signs.{plus-up}
 use Rattle.number.proofs.Units.{of-float}
 use Rattle.number.proofs.Units.Compared.{eq-is, says-le, says-lt}
 use Rattle.number.proofs.Within.{within-finite}
 use Rattle.distance.specs.Distance.{nearestOf}
 use Rattle.admission.specs.declared.Limits.{Limits}
-use Rattle.ccd3.specs.SafeTime.{threshold, squaredPark, squaredOffset, firstSquared, touches, between}
+use Rattle.ccd3.specs.SafeTime.{threshold, squaredPark, firstSquared, touches, between}
 use Rattle.ccd3.proofs.Growth.{step-plus}
-use Rattle.ccd3.proofs.PlainStep.{Given, squared-park, squared-offset, plain-plus}
+use Rattle.ccd3.proofs.PlainStep.{Given, squaredOffset, squared-park, squared-offset, plain-plus}
 use Rattle.ccd3.proofs.Standing.{Ground, Forward}
-
-or-left : (a b : Bool) → (a || b) ≡ false → a ≡ false
-or-left true b e = absurd (true≢false e)
-or-left false b e = refl
-
-or-right : (a b : Bool) → (a || b) ≡ false → b ≡ false
-or-right true b e = absurd (true≢false e)
-or-right false b e = e
 
 module _ (x₀ dx : List (List Float)) (split : ℕ) (l : Limits) (g : Ground x₀ dx split l) (given : Given l) where
   pub start-far : between x₀ dx split l ≡ false → touches x₀ dx split l ≡ false

@@ -2,9 +2,8 @@
 -- distance, a probe at the end of each, and a halving once a probe is not apart any more (docs/01-scope.md, "The
 -- directional step", "The walk", "Refusal numbers"); and what every answer promises (docs/GUARANTEES.md). Definitions only.
 use Prim.Native.Nat.{ℕ, zero, suc, _≤_}
-use mathlib.Core.{Path._≡_, Option.Option, Option.none, Option.some}
+use mathlib.Core.{Path._≡_, Option.Option, Option.none, Option.some, List.List, List.[], List._∷_}
 use mathlib.Core.Bool.{Bool, true, false, cond, _&&_, _||_, not}
-use mathlib.Core.List.{List, [], _∷_}
 use lib.{Dec.T, Dec.eqb, ListN.length}
 use lib.Ieee.{Float, binary32, lt, le, eq, isNan, ofBits}
 use Rattle.number.specs.Number.{_⊕_, _⊖_, _⊗_, _⊘_, zero32, half32, one32, largest32, size, smaller, larger, written}
@@ -206,9 +205,6 @@ module _ (x₀ dx : List (List Float)) (split : ℕ) (threshold : Float) where
 abbrev pub squaredPark : Limits → Float
 squaredPark l = park l ⊗ park l
 
-abbrev pub squaredOffset : Limits → Float
-squaredOffset l = l .offset ⊗ l .offset
-
 -- how many probes a call may make
 abbrev pub allowance : ℕ
 allowance = 4096
@@ -226,10 +222,10 @@ module _ (x₀ dx : List (List Float)) (split : ℕ) (l : Limits) where
   firstSquared = nearestOf split x₀ .squared
 
   abbrev pub touches : Bool
-  touches = le firstSquared (squaredOffset l) || eq firstSquared (squaredPark l)
+  touches = le firstSquared (l .offset ⊗ l .offset) || eq firstSquared (squaredPark l)
 
   abbrev pub between : Bool
-  between = lt (squaredOffset l) firstSquared && lt firstSquared (squaredPark l)
+  between = lt (l .offset ⊗ l .offset) firstSquared && lt firstSquared (squaredPark l)
 
   -- the refusal's number, 0 for none
   unfoldable pub safeRefusal : ℕ

@@ -52,8 +52,7 @@ nearestFrom a (b ∷ rest) = nearestFrom (nearer a b) rest
 abbrev pub firstSmallest : Candidates → Nearest
 firstSmallest c = nearestFrom (c .first) (c .others)
 
--- ---- the products of two directions and a gap, and the quotients that place both interior candidates
--- a to e, and det, of the directions u and v and the gap w
+-- ---- the products a to e and det of two directions u, v and a gap w, and the quotients that place interior candidates
 unfoldable pub productsOf : List Float → List Float → List Float → Products
 productsOf u v w = record {
   a = dot u u;

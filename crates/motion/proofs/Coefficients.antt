@@ -12,7 +12,7 @@ use Rattle.number.specs.Number.{_⊕_, _⊖_, _⊗_, zero32, one32, isFinite}
 use Rattle.number.proofs.Within.{Within, within-more, add-within, sub-within, mul-within}
 use Rattle.number.specs.Number as Answer
 use Rattle.number.proofs.Answers.{refusal-first, refused, admitted-keeps}
-use Rattle.geometry.specs.Geometry.{at, col, triple}
+use Rattle.geometry.specs.Geometry.{minus, at, col, triple}
 use Rattle.geometry.proofs.Bounds.{VecWithin, minus-within, col-within}
 use Rattle.polynomial_root.specs.declared.answer.Roots.{Roots}
 use Rattle.polynomial_root.specs.declared.cubic.Cubic.{Cubic}
@@ -21,7 +21,7 @@ use Rattle.polynomial_root.specs.Roots.{cubicRefusal, cubicRootsInRange, cubicR
 use Rattle.polynomial_root.proofs.Admitted.{finiteCubic, rangedCubic}
 use Rattle.admission.specs.Admission.{finitePoints, boundedPoints, motionRefusal}
 use Rattle.admission.proofs.Admitted.{within-real, points-within, motion-admits, motion-first}
-use Rattle.motion.specs.Motion.{volume, edge, motionCubic, coplanarTimes}
+use Rattle.motion.specs.Motion.{volume, motionCubic, coplanarTimes}
 use Rattle.motion.proofs.Refusals.{cubic-refusal}
 
 -- an edge, a triple product of edges, by size; a sum of three such products is finite too
@@ -30,6 +30,9 @@ record Edge (v : List Float) : Type 0 where
 
 record Product (x : Float) : Type 0 where
   pub size : Within 66 x
+
+abbrev edge : List (List Float) → ℕ → List Float
+edge x i = minus (col x i) (col x 0)
 
 edge-small : (x : List (List Float)) → T (boundedPoints x) → (i : ℕ) → i < 4 → Edge (edge x i)
 edge-small x h i l = record {

@@ -106,12 +106,11 @@ volume x1 x2 x3 v1 v2 v3 =
     cubicOf (triple x3 x1 x2) (triple v3 x1 x2 ⊕ triple x3 v1 x2 ⊕ triple x3 x1 v2)
     (triple v3 v1 x2 ⊕ triple v3 x1 v2 ⊕ triple x3 v1 v2) (triple v3 v1 v2)
 
--- column i as seen from column 0
-abbrev pub edge : List (List Float) → ℕ → List Float
-edge x i = minus (col x i) (col x 0)
-
+-- of a pair: an edge is a column as seen from column 0
 unfoldable pub motionCubic : List (List Float) → List (List Float) → Cubic
-motionCubic x dx = volume (edge x 1) (edge x 2) (edge x 3) (edge dx 1) (edge dx 2) (edge dx 3)
+motionCubic x dx =
+    let edge : List (List Float) → ℕ → List Float = λ y i. minus (col y i) (col y 0) in
+    volume (edge x 1) (edge x 2) (edge x 3) (edge dx 1) (edge dx 2) (edge dx 3)
 
 -- the roots of that cubic in 0..1, with epsilon 0; a coefficient beyond the bound is refused by 2
 unfoldable pub coplanarTimes : List (List Float) → List (List Float) → Roots

@@ -1,6 +1,5 @@
 -- Single-precision numbers (docs/01-scope.md, opening, "Number helpers", "The numbers allowed", "Refusal numbers",
--- "Square root and norm", "The walk"): the operations, each rounded once to nearest even, the helpers, the ranges, what a
--- call answers, the square root, and the halving of a span of times. Definitions only.
+-- "Square root and norm", "The walk"). Each operation is rounded once, to nearest even. Definitions only.
 use Prim.Native.Nat.{ℕ, zero, suc, _-_, _+_, _*_, _/_, _%_, _^_}
 use mathlib.Core.Bool.{Bool, true, false, cond, _&&_, _||_}
 use lib.Dec.{eqb, ltb}

@@ -11,7 +11,7 @@ use Rattle.number.specs.Number.{_⊕_, _⊖_, _⊗_, _⊘_, zero32, one32, root
 use Rattle.number.proofs.Within.{Within, within-finite, within-more, add-within, sub-within, mul-within}
 use Rattle.number.proofs.Comparing.{not-lt-le, lt-le}
 use Rattle.number.proofs.SquareRoot.Bounds.{root-within}
-use Rattle.polynomial_root.specs.Roots.{two32, four32, stable, inOrder, solved}
+use Rattle.polynomial_root.specs.Roots.{two32, stable, inOrder, solved}
 use Rattle.polynomial_root.specs.declared.quadratic.Solved.{Solved}
 use Rattle.polynomial_root.specs.declared.quadratic.Solved.the-variants.{Neither, Both}
 use Rattle.polynomial_root.proofs.Orders.{test-true}
@@ -33,6 +33,9 @@ no-right true h = h
 no-right false h = refl
 
 -- ---- the parts of the definition, and their sizes
+abbrev four32 : Float
+four32 = ofBits binary32 0x4080_0000
+
 abbrev discriminant : Float → Float → Float → Float
 discriminant c0 c1 c2 = c1 ⊗ c1 ⊖ four32 ⊗ c2 ⊗ c0
 

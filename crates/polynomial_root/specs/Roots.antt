@@ -35,9 +35,6 @@ push a r =
 abbrev pub two32 : Float
 two32 = ofBits binary32 0x4000_0000
 
-abbrev pub four32 : Float
-four32 = ofBits binary32 0x4080_0000
-
 -- minus the sum of c1 and the discriminant's root with the sign of c1, a zero's plus: nothing cancels in it
 abbrev pub stable : Float → Float → Float
 stable c1 d = neg (c1 ⊕ cond (lt c1 zero32) (neg one32) one32 ⊗ rootOf d)
@@ -48,7 +45,7 @@ inOrder a b = cond (lt a b) (Both a b) (Both b a)
 -- none or two, the smaller first, a double root twice: one from the sum s, the other from the product of the two
 unfoldable pub solved : Float → Float → Float → Solved
 solved c0 c1 c2 =
-    let d = c1 ⊗ c1 ⊖ four32 ⊗ c2 ⊗ c0 in
+    let d = c1 ⊗ c1 ⊖ ofBits binary32 0x4080_0000 ⊗ c2 ⊗ c0 in
     let s = stable c1 d in
     let one = s ⊘ (two32 ⊗ c2) in
     cond (lt d zero32) Neither (inOrder (cond (eq s zero32) one (two32 ⊗ c0 ⊘ s)) one)

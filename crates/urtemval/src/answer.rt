@@ -23,7 +23,13 @@ pub struct Value {
 }
 
 fn timed(refusal: u32, kind: u32, time: f32, s: ccd3::SafeTime) -> SafeTime
-    ensures { λ r. ⌜ r ≡ Def.timed refusal kind time s ⌝ }
+    ensures { λ r. ⌜ r ≡ record {
+      refusal = refusal;
+      kind = kind;
+      time = time;
+      probes = s .probes;
+      halvings = s .halvings;
+    } ⌝ }
 {
     SafeTime {
         refusal: refusal,

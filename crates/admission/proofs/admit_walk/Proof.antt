@@ -7,8 +7,8 @@ use mathlib.Core.List.{List}
 use lib.Ieee.{Float}
 use borrow.Author.Needs.{needs}
 use Rattle.admission.specs.declared.Limits.{Limits}
-use Rattle.admission.specs.Admission.{boundedPoints, isSplit, rangedLimits, rangedWalk}
-use Rattle.admission.proofs.Admitted.{walk-none, walk-beyond}
+use Rattle.admission.specs.Admission.{boundedPoints, isSplit, rangedLimits}
+use Rattle.admission.proofs.Admitted.{rangedWalk, walk-none, walk-beyond}
 use Rattle.admission.proofs.admit_walk.Statement.{statement}
 use Rattle.admission.proofs.admit_walk.Tie as tie
 

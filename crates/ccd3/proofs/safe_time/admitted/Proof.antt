@@ -6,9 +6,10 @@ use borrow.Author.Needs.{needs}
 use lib.Ieee.{Float, lt, le, eq}
 use Rattle.number.specs.Number.{zero32}
 use Rattle.distance.specs.declared.candidate.Nearest.{Nearest}
-use Rattle.ccd3.specs.SafeTime.{walk, threshold, squaredPark, squaredOffset, firstSquared, touches, between}
+use Rattle.ccd3.specs.SafeTime.{walk, threshold, squaredPark, firstSquared, touches, between}
 use Rattle.ccd3.specs.SafeTime.{safeRefusal}
 use Rattle.ccd3.specs.Inner.{counted}
+use Rattle.ccd3.proofs.PlainStep.{squaredOffset}
 use Rattle.ccd3.proofs.StartLaws.{number-admitted, safe-refused, safe-touches, safe-walks}
 use Rattle.ccd3.proofs.safe_time.admitted.Statement.{statement}
 use Rattle.ccd3.proofs.safe_time.admitted.Tie as tie
