@@ -17,9 +17,9 @@ abbrev μ-loop : tie.MeasureT-loop
 pub answer-block-spec : {M : Type 1} → statement M
 answer-block-spec =
     tie.close
-    (tie.spec Inv-loop μ-loop (λ c. search needs) (λ c. search needs) (λ c. counts _ _ (search needs))
-    (λ c. search needs) (λ c. search needs) (λ c. search needs) (λ c κs. search needs) (λ c κs. search needs)
-    (λ c. search needs) (λ c. counts _ _ (search needs)) (λ c. search needs) (λ c. search needs)
-    (λ c. counts _ _ (search needs)) (λ c. search needs) (λ c. search needs) (λ c. search needs)
-    (λ c κs. search needs) (λ c κs. search needs) (λ c. search needs) (λ c. search needs) (λ c. search needs)
-    (λ c. search needs) (λ c. search needs) (λ c. counts _ _ (search needs)))
+    (tie.spec Inv-loop μ-loop (search needs) (search needs) (λ c. counts _ _ (search needs))
+    (search needs) (search needs) (search needs) (search needs) (search needs)
+    (search needs) (λ c. counts _ _ (search needs)) (search needs) (search needs)
+    (λ c. counts _ _ (search needs)) (search needs) (search needs) (search needs)
+    (search needs) (search needs) (search needs) (search needs) (search needs)
+    (search needs) (search needs) (λ c. counts _ _ (search needs)))

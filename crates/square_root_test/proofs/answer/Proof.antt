@@ -10,5 +10,5 @@ float-to-bits-t8 c = no-nan-ne _ (c .if1 .left)
 pub answer-spec : {M : Type 1} → statement M
 answer-spec =
     tie.close
-    (tie.spec (λ c κs. search needs) (λ c κs. search needs) (λ c. search needs) (λ c. search needs) float-to-bits-t8
-    (λ c. search needs) (λ c. search needs) (λ c. search needs))
+    (tie.spec (search needs) (search needs) (search needs) (search needs) float-to-bits-t8
+    (search needs) (search needs) (search needs))

@@ -11,4 +11,4 @@ float-from-bits-result c = no-nan-bits (c .before .args .b) (omega arith)
 pub float-spec : {M : Type 1} → statement M
 float-spec =
     tie.close
-    (tie.spec float-from-bits-result (λ c. search needs) (λ c. search needs))
+    (tie.spec float-from-bits-result (search needs) (search needs))

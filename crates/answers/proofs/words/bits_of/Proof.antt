@@ -10,4 +10,4 @@ float-to-bits-result c = no-nan-ne (c .before .args .x) (c .if1 .left)
 pub bits-of-spec : {M : Type 1} → statement M
 bits-of-spec =
     tie.close
-    (tie.spec (λ c. search needs) float-to-bits-result (λ c. search needs))
+    (tie.spec (search needs) float-to-bits-result (search needs))

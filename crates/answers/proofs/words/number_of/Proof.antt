@@ -10,4 +10,4 @@ float-from-bits-result c = no-nan-bits (c .before .args .bits) (c .if1 .taken)
 pub number-of-spec : {M : Type 1} → statement M
 number-of-spec =
     tie.close
-    (tie.spec float-from-bits-result (λ c. search needs) (λ c. search needs))
+    (tie.spec float-from-bits-result (search needs) (search needs))

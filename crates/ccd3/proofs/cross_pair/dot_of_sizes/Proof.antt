@@ -8,4 +8,4 @@ returns c = rw (c .dot .ensures, c .before .sizes2 .ensures, c .before .before .
 
 pub dot-of-sizes-spec : {M : Type 1} → statement M
 dot-of-sizes-spec =
-    tie.close (tie.spec (λ c κs. search needs) (λ c κs. search needs) (λ c κs. search needs) returns)
+    tie.close (tie.spec (search needs) (search needs) (search needs) returns)

@@ -18,5 +18,5 @@ returns c =
 pub projected-spec : {M : Type 1} → statement M
 projected-spec =
     tie.close
-    (tie.spec (λ c κs. search needs) (λ c κs. search needs) (λ c κs. search needs) (λ c κs. search needs)
-    (λ c κs. search needs) returns)
+    (tie.spec (search needs) (search needs) (search needs) (search needs)
+    (search needs) returns)

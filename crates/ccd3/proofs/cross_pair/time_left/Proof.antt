@@ -26,4 +26,4 @@ returns-2 c = rw (← speed (c .before), c .if1 .left)
 pub time-left-spec : {M : Type 1} → statement M
 time-left-spec =
     tie.close
-    (tie.spec (λ c κs. search needs) (λ c κs. search needs) (λ c κs. search needs) returns returns-2)
+    (tie.spec (search needs) (search needs) (search needs) returns returns-2)

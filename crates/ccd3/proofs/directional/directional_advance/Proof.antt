@@ -16,4 +16,4 @@ returns-2 c = c .face-to-vertex .ensures ∙ rw (ne-eqb _ 2 (c .before .if1 .lef
 
 pub directional-advance-spec : {M : Type 1} → statement M
 directional-advance-spec =
-    tie.close (tie.spec (λ c κs. search needs) (λ c κs. search needs) returns returns-2)
+    tie.close (tie.spec (search needs) (search needs) returns returns-2)

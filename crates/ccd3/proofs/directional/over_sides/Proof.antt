@@ -47,45 +47,12 @@ sides-holds : tie.Need-sides-holds Inv-loop μ-loop Inv-sides μ-sides
 unfolding crossPairs
 sides-holds c = rw sub-zero
 
-mul-lefts : tie.Need-mul-lefts Inv-loop μ-loop Inv-sides μ-sides
-mul-lefts c = omega arith
-
-array-copy-out-lefts : tie.Need-array-copy-out-lefts Inv-loop μ-loop Inv-sides μ-sides
-array-copy-out-lefts c = omega arith
-
-mul-times : tie.Need-mul-times Inv-loop μ-loop Inv-sides μ-sides
-mul-times c = omega arith
-
-array-copy-out-times : tie.Need-array-copy-out-times Inv-loop μ-loop Inv-sides μ-sides
-array-copy-out-times c = omega arith
-
 loop-holds : tie.Need-loop-holds Inv-loop μ-loop Inv-sides μ-sides
 loop-holds c =
     let start = c .before .before .before .before in
     let s = c .before .before .before .sides in
     let e = rows-next (start .args .split) (s .i) (c .before .before .sides-test .taken) in
     (omega arith, omega arith, turned start _ _ (s .step) e (s .inv))
-
-mul-if1 : tie.Need-mul-if1 Inv-loop μ-loop Inv-sides μ-sides
-mul-if1 c = omega arith
-
-array-read-if1 : tie.Need-array-read-if1 Inv-loop μ-loop Inv-sides μ-sides
-array-read-if1 c = omega arith
-
-mul-smaller : tie.Need-mul-smaller Inv-loop μ-loop Inv-sides μ-sides
-mul-smaller c = omega arith
-
-array-read-smaller : tie.Need-array-read-smaller Inv-loop μ-loop Inv-sides μ-sides
-array-read-smaller c = omega arith
-
-smaller-requires : tie.Need-smaller-requires Inv-loop μ-loop Inv-sides μ-sides
-smaller-requires c κs = search needs
-
-add-j : tie.Need-add-j Inv-loop μ-loop Inv-sides μ-sides
-add-j c = omega arith
-
-loop-less : tie.Need-loop-less Inv-loop μ-loop Inv-sides μ-sides
-loop-less c = omega arith
 
 -- the pair that a turn of the inner loop is at comes first
 module _ (c : tie.In-loop Inv-loop μ-loop Inv-sides μ-sides) where
@@ -118,12 +85,6 @@ loop-again c =
           ∙ at-pair t,
     )
 
-add-i : tie.Need-add-i Inv-loop μ-loop Inv-sides μ-sides
-add-i c = omega arith
-
-sides-less : tie.Need-sides-less Inv-loop μ-loop Inv-sides μ-sides
-sides-less c = omega arith
-
 sides-again : tie.Need-sides-again Inv-loop μ-loop Inv-sides μ-sides
 sides-again c =
     let l = c .before in
@@ -149,6 +110,6 @@ returns-2 c =
 pub over-sides-spec : {M : Type 1} → statement M
 over-sides-spec =
     tie.close
-    (tie.spec Inv-loop μ-loop Inv-sides μ-sides sides-holds mul-lefts array-copy-out-lefts mul-times
-    array-copy-out-times loop-holds mul-if1 array-read-if1 mul-smaller array-read-smaller smaller-requires add-j
-    loop-less loop-again add-i sides-less sides-again returns returns-2)
+    (tie.spec Inv-loop μ-loop Inv-sides μ-sides sides-holds (search needs) (search needs) (search needs)
+    (search needs) loop-holds (search needs) (search needs) (search needs) (search needs) (search needs) (search needs)
+    (search needs) loop-again (search needs) (search needs) sides-again returns returns-2)

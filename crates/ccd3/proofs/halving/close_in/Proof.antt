@@ -96,5 +96,5 @@ returns-2 c =
 pub close-in-spec : {M : Type 1} → statement M
 close-in-spec =
     tie.close
-    (tie.spec Inv-loop μ-loop loop-holds (λ c κs. search needs) (λ c. omega arith) returns (λ c. omega arith)
+    (tie.spec Inv-loop μ-loop loop-holds (search needs) (search needs) returns (search needs)
     loop-again returns-2)

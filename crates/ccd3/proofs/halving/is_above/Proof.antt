@@ -9,4 +9,4 @@ unfolding squaredAt above
 returns c = rw (c .is-above .ensures, c .before .add-scaled .ensures)
 
 pub is-above-spec : {M : Type 1} → statement M
-is-above-spec = tie.close (tie.spec (λ c κs. search needs) (λ c κs. search needs) returns)
+is-above-spec = tie.close (tie.spec (search needs) (search needs) returns)

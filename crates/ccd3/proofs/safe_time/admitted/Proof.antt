@@ -77,5 +77,5 @@ returns-3 c =
 pub admitted-spec : {M : Type 1} → statement M
 admitted-spec =
     tie.close
-    (tie.spec (λ c κs. search needs) (λ c κs. search needs) returns (λ c κs. search needs) returns-2
-    (λ c κs. search needs) (λ c κs. search needs) returns-3)
+    (tie.spec (search needs) (search needs) returns (search needs) returns-2
+    (search needs) (search needs) returns-3)

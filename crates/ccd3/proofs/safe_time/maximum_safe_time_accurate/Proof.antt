@@ -58,4 +58,4 @@ returns c =
     (ap told (c .before .safe-walk .ensures) ∙ told-all (safeWalk (a .x0) (a .dx) (a .split) (a .limits) allowance))
 
 pub maximum-safe-time-accurate-spec : {M : Type 1} → statement M
-maximum-safe-time-accurate-spec = tie.close (tie.spec (λ c κs. search needs) returns)
+maximum-safe-time-accurate-spec = tie.close (tie.spec (search needs) returns)

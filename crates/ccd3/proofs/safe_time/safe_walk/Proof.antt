@@ -26,4 +26,4 @@ returns-2 c =
 pub safe-walk-spec : {M : Type 1} → statement M
 safe-walk-spec =
     tie.close
-    (tie.spec (λ c κs. search needs) admitted-requires (λ c κs. search needs) returns returns-2)
+    (tie.spec (search needs) admitted-requires (search needs) returns returns-2)

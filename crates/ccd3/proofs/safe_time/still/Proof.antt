@@ -9,4 +9,4 @@ returns : tie.Need-returns
 returns c = ap (λ (e : Ending). record { ending = e; probes = 0 }) (c .unbracketed .ensures)
 
 pub still-spec : {M : Type 1} → statement M
-still-spec = tie.close (tie.spec (λ c κs. search needs) returns)
+still-spec = tie.close (tie.spec (search needs) returns)

@@ -7,4 +7,4 @@ returns : tie.Need-returns
 returns c = rw (c .step-length .ensures)
 
 pub next-time-spec : {M : Type 1} → statement M
-next-time-spec = tie.close (tie.spec (λ c κs. search needs) returns)
+next-time-spec = tie.close (tie.spec (search needs) returns)

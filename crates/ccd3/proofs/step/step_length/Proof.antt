@@ -21,4 +21,4 @@ returns-2 c = rw (← c .before .before .before .root .ensures, c .if1 .left)
 pub step-length-spec : {M : Type 1} → statement M
 step-length-spec =
     tie.close
-    (tie.spec (λ c κs. search needs) (λ c κs. search needs) (λ c κs. search needs) returns returns-2)
+    (tie.spec (search needs) (search needs) (search needs) returns returns-2)

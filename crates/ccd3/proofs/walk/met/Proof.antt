@@ -18,4 +18,4 @@ returns c =
     }
 
 pub met-spec : {M : Type 1} → statement M
-met-spec = tie.close (tie.spec (λ c κs. search needs) returns)
+met-spec = tie.close (tie.spec (search needs) returns)

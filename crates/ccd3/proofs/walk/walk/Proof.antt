@@ -126,6 +126,6 @@ loop-again c =
 pub walk-spec : {M : Type 1} → statement M
 walk-spec =
     tie.close
-    (tie.spec Inv-loop μ-loop loop-holds (λ c κs. search needs) (λ c κs. search needs) (λ c κs. search needs) returns
-    (λ c κs. search needs) returns-2 (λ c. omega arith) (λ c κs. search needs) (λ c κs. search needs) (λ c. omega arith)
-    loop-again (λ c κs. search needs) returns-3)
+    (tie.spec Inv-loop μ-loop loop-holds (search needs) (search needs) (search needs) returns
+    (search needs) returns-2 (search needs) (search needs) (search needs) (search needs)
+    loop-again (search needs) returns-3)

@@ -10,4 +10,4 @@ float-to-bits-result c = no-nan-ne _ (c .if1 .left)
 pub bits-spec : {M : Type 1} → statement M
 bits-spec =
     tie.close
-    (tie.spec float-to-bits-result (λ c. search needs) (λ c. search needs))
+    (tie.spec float-to-bits-result (search needs) (search needs))

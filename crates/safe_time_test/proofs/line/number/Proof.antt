@@ -10,5 +10,5 @@ float-to-bits-hex c = no-nan-ne _ (c .if1 .left)
 pub number-spec : {M : Type 1} → statement M
 number-spec =
     tie.close
-    (tie.spec (λ c. search needs) (λ c κs. search needs) (λ c. search needs) (λ c κs. search needs) float-to-bits-hex
-    (λ c κs. search needs) (λ c. search needs) (λ c. search needs))
+    (tie.spec (search needs) (search needs) (search needs) (search needs) float-to-bits-hex
+    (search needs) (search needs) (search needs))
