@@ -4,9 +4,10 @@
   of docs/STATEMENTS.md with its definition, which is there.
 - Each public function has a must-fail edit: of its own lines, or of a function of its crate that it calls. The row of
   a function in STATEMENTS.md names edits of that kind, and each edit stands there.
-- README.md lists each file of definitions with its number of lines, and their sum.
-- Each definition of specs/ is reached from a contract; each law of proofs/ is cited, or stands in STATEMENTS.md, whose
-  laws are there; each function is called; each import is used.
+- README.md lists each file of definitions with its number of lines, and their sums.
+- Each definition of specs/ is reached from a public contract, or stands in Inner.antt and is reached from another one;
+  each law of proofs/ is cited, or stands in STATEMENTS.md, whose laws are there; each function is called; each import
+  is used.
 - docs/CONTRIBUTING.md lists each file of laws, proofs/NAME.antt, once, and has each library crate in its drawing.
 - What follows from the table of the stream of calls, tests/calls.txt, stands as that has it (tests/calls_written.py).
 """
@@ -155,18 +156,42 @@ def definitions(text):
     return [(head["name"], body[head.start():end]) for head, end in zip(heads, ends)]
 
 
-def hold_definitions():
-    contracts = "\n".join("\n".join(re.findall(r"⌜.*?⌝", text, re.S)) for text in SOURCES.values())
-    waiting = [(path, name, body) for path, text in SPECS.items() for name, body in definitions(text)]
-    reached = contracts
+def contract_of(function, text):
+    """What a function's contract says between the brackets of the logic, without the fields that it reads."""
+    said = re.findall(r"⌜.*?⌝", text[function.start():].split("{\n", 1)[0], re.S)
+    return re.sub(r"\s\.\w+", "", "\n".join(said))
+
+
+def reached_from(contracts, waiting):
+    """Those definitions of a list that a text names, or that such a one names, and so on."""
+    reached, text = [], contracts
     while True:
-        now = [entry for entry in waiting if occurs(entry[1], reached)]
+        now = [entry for entry in waiting if occurs(entry[1], text)]
         if not now:
-            break
+            return reached
         waiting = [entry for entry in waiting if entry not in now]
-        reached += "\n".join(body for _, _, body in now)
-    for path, name, _ in waiting:
-        fault(name_of(path), f"no contract reaches {name}")
+        reached += now
+        text = "\n".join(body for _, _, body in now)
+
+
+def hold_definitions():
+    """What a public contract rests on stands in the files to be believed; what only inner functions say in Inner.antt."""
+    public, all_contracts = [], []
+    for path, text in SOURCES.items():
+        for function in FUNCTION.finditer(text):
+            all_contracts.append(contract_of(function, text))
+            if crate_of(path) in IS_LIBRARY and function["how"] == "pub ":
+                public.append(all_contracts[-1])
+    there = [(path, name, body) for path, text in SPECS.items() for name, body in definitions(text)]
+    by_public = reached_from("\n".join(public), there)
+    by_any = reached_from("\n".join(all_contracts), there)
+    for path, name, body in there:
+        if (path, name, body) not in by_any:
+            fault(name_of(path), f"no contract reaches {name}")
+        elif path.stem == "Inner" and (path, name, body) in by_public:
+            fault(name_of(path), f"a public contract reaches {name}")
+        elif path.stem != "Inner" and (path, name, body) not in by_public:
+            fault(name_of(path), f"only contracts of inner functions reach {name}: it belongs into Inner.antt")
 
 
 LAW = re.compile(rf"^ *(?:abbrev |unfoldable )?(?:pub )?(?P<name>{WORD}+) *(?:{{[^}}]*}} *)?: ", re.M)
@@ -278,6 +303,13 @@ def hold_statements():
 
 
 # ---- README.md
+def library_crates():
+    """The crates that the archive is made of: what `urtemval` rests on stands above it in crates.txt."""
+    lines = (ROOT / "crates.txt").read_text().split("\n")
+    names = [line.split(":")[0] for line in lines if re.match(r"\w+:", line)]
+    return names[: names.index("urtemval") + 1]
+
+
 def hold_readme():
     text = (ROOT / "README.md").read_text()
     there = {path: len(path.read_text().splitlines()) for path in SPECS if path.name != "Lib.antt"}
@@ -288,10 +320,18 @@ def hold_readme():
     for path in sorted(there.keys() | listed.keys()):
         if there.get(path) != listed.get(path):
             fault("README.md", f"{name_of(path)} has {there.get(path)} lines, and {listed.get(path)} are listed")
-    total = f"{sum(there.values()):,} lines"
-    if total not in text:
-        fault("README.md", f"the definitions have {total}, and that is not said")
-    return len(there), sum(there.values())
+    library, programs, inner = 0, 0, 0
+    for path, lines in there.items():
+        if path.stem == "Inner":
+            inner += lines
+        elif crate_of(path) in library_crates():
+            library += lines
+        else:
+            programs += lines
+    for total, what in (library, "library"), (programs, "scenes and text"), (inner, "inner functions"):
+        if f"{what}, {total:,} lines" not in text:
+            fault("README.md", f"'{what}, {total:,} lines' is not said")
+    return len(there), library + programs + inner
 
 
 # ---- docs/CONTRIBUTING.md

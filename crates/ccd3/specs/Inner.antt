@@ -26,5 +26,5 @@ leastIn left time dip (p ∷ rest) least =
 
 -- ---- the walk, with its probes counted
 -- of a walk that goes on after n probes: how it ends, and how many probes it has made by then
-abbrev pub counted : ℕ → Walked → Counted
-counted n w = record { ending = w .ending; probes = n + length (w .probed) }
+abbrev pub countedFrom : ℕ → Walked → Counted
+countedFrom n w = record { ending = w .ending; probes = n + length (w .probed) }

@@ -62,7 +62,7 @@ pub(crate) fn walk(
     allowance: u32,
     first: Nearest,
 ) -> Counted
-    ensures { λ r. ⌜ r ≡ Inner.counted 0 (Def.walk x0 dx split threshold l allowance
+    ensures { λ r. ⌜ r ≡ Inner.countedFrom 0 (Def.walk x0 dx split threshold l allowance
         (record { time = zero32; points = x0; near = first })) ⌝ }
 {
     let mut time = 0.0;

@@ -14,10 +14,10 @@ use Rattle.motion.specs.declared.factors.Factors.{Factors}
 use Rattle.motion.specs.declared.scaling.Outcome.{Outcome}
 use Rattle.motion.specs.Motion.{usable, factorsOf, firstFactor, factorsFor, scaledWith, scaledPair, finitePair}
 use Rattle.motion.specs.Motion.{scalingRefusal, leaves}
-use Rattle.motion.specs.Inner.{refusedBy, outcome}
+use Rattle.motion.specs.Inner.{standing, outcome}
 
 module _ (p : Pair) (t : Float) where
-  refused-by : (n : ℕ) → scalingRefusal p t ≡ n → (n ≡ 0 → ⊥) → refusedBy p n ≡ outcome p t
+  refused-by : (n : ℕ) → scalingRefusal p t ≡ n → (n ≡ 0 → ⊥) → standing p n ≡ outcome p t
   unfolding outcome answered leaves
   refused-by n e z = rw (e, ne-eqb n 0 z)
 
@@ -28,12 +28,12 @@ module _ (p : Pair) (t : Float) where
   taken e = rw e
 
   module _ (n : ℕ) (en : n ≡ timeRefusal (p .x) (p .dx) t) where
-    pub by-admission : (n ≡ 0 → ⊥) → refusedBy p n ≡ outcome p t
+    pub by-admission : (n ≡ 0 → ⊥) → standing p n ≡ outcome p t
     unfolding scalingRefusal
     by-admission h = refused-by n (rw (← en, ne-eqb n 0 h)) h
 
     module _ (z : n ≡ 0) (f : Float) (ef : f ≡ firstFactor p t) (u : Bool) (eu : u ≡ usable f) where
-      pub by-use : u ≡ false → refusedBy p 4 ≡ outcome p t
+      pub by-use : u ≡ false → standing p 4 ≡ outcome p t
       unfolding scalingRefusal
       by-use h = refused-by 4 (rw (← en, eq-eqb n 0 z, ← ef, ← eu, h)) (λ e. omega arith)
 
@@ -41,7 +41,7 @@ module _ (p : Pair) (t : Float) where
           (w : u ≡ true) (by : Factors) (eb : by ≡ factorsOf f) (q : Pair) (eq : q ≡ scaledWith by p) (b : Bool)
           (ok : b ≡ finitePair q)
         where
-          pub by-size : b ≡ false → refusedBy p 5 ≡ outcome p t
+          pub by-size : b ≡ false → standing p 5 ≡ outcome p t
           unfolding scalingRefusal
           by-size h =
               refused-by 5 (rw (← en, eq-eqb n 0 z, ← ef, ← eu, w, ← eb, ← eq, ← ok, h)) (λ e. omega arith)

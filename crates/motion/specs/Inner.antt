@@ -7,8 +7,8 @@ use Rattle.motion.specs.declared.{record.Pair.Pair, scaling.Outcome.Outc
 use Rattle.motion.specs.Motion.{scalingRefusal, scalingOf, leaves}
 
 -- a refused pair stays as it was
-abbrev pub refusedBy : Pair → ℕ → Outcome
-refusedBy p n = record { taken = false; answer = Refused n; pair = p }
+abbrev pub standing : Pair → ℕ → Outcome
+standing p n = record { taken = false; answer = Refused n; pair = p }
 
 -- both together, and whether the scaled pair is taken
 unfoldable pub outcome : Pair → Float → Outcome

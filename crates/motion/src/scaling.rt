@@ -52,7 +52,7 @@ fn finite_pair(p: Pair) -> bool
 
 // The pair stays as it was.
 fn refused(p: Pair, number: u32) -> Outcome
-    ensures { λ r. ⌜ r ≡ Inner.refusedBy p number ⌝ }
+    ensures { λ r. ⌜ r ≡ Inner.standing p number ⌝ }
 {
     let answer = Answered::Refused(number);
     Outcome {

@@ -8,7 +8,7 @@ use Rattle.number.specs.Number.{zero32}
 use Rattle.distance.specs.declared.candidate.Nearest.{Nearest}
 use Rattle.ccd3.specs.SafeTime.{walk, threshold, squaredPark, firstSquared, touches, between}
 use Rattle.ccd3.specs.SafeTime.{safeRefusal}
-use Rattle.ccd3.specs.Inner.{counted}
+use Rattle.ccd3.specs.Inner.{countedFrom}
 use Rattle.ccd3.proofs.PlainStep.{squaredOffset}
 use Rattle.ccd3.proofs.StartLaws.{number-admitted, safe-refused, safe-touches, safe-walks}
 use Rattle.ccd3.proofs.safe_time.admitted.Statement.{statement}
@@ -45,7 +45,7 @@ returns c =
     let n = c .before .before .before .before .before .before in
     let a = n .before .args in
     c .still .ensures
-    ∙ ap (counted 0)
+    ∙ ap (countedFrom 0)
     (sym (safe-refused (a .x0) (a .dx) (a .split) (a .l) (a .allowance) 3 (numbered n true (c .before .if1 .taken))
     (λ k. omega arith)))
 
@@ -55,7 +55,7 @@ returns-2 c =
     let n = e .before .before .before .before .before in
     let a = n .before .args in
     c .still2 .ensures
-    ∙ ap (counted 0)
+    ∙ ap (countedFrom 0)
     (sym (safe-touches (a .x0) (a .dx) (a .split) (a .l) (a .allowance) (numbered n false (e .if1 .left))
     (as-touches n true (c .before .if2 .taken))))
 
@@ -66,11 +66,11 @@ returns-3 c =
     let n = e .before .before .before .before .before in
     let a = n .before .args in
     c .walk .ensures
-    ∙ ap (λ (t : Float). counted 0 (walk (a .x0) (a .dx) (a .split) t (a .l) (a .allowance)
+    ∙ ap (λ (t : Float). countedFrom 0 (walk (a .x0) (a .dx) (a .split) t (a .l) (a .allowance)
     (record { time = zero32; points = a .x0; near = n .nearest .result }))) (c .before .threshold .ensures)
-    ∙ ap (λ (near : Nearest). counted 0 (walk (a .x0) (a .dx) (a .split) (threshold (a .l)) (a .l) (a .allowance)
+    ∙ ap (λ (near : Nearest). countedFrom 0 (walk (a .x0) (a .dx) (a .split) (threshold (a .l)) (a .l) (a .allowance)
     (record { time = zero32; points = a .x0; near = near }))) (n .nearest .ensures)
-    ∙ ap (counted 0)
+    ∙ ap (countedFrom 0)
     (sym (safe-walks (a .x0) (a .dx) (a .split) (a .l) (a .allowance) (numbered n false (e .if1 .left))
     (as-touches n false (u .if2 .left))))
 

@@ -11,7 +11,7 @@ use Rattle.admission.proofs.Limits.Laws.{the-laws}
 use Rattle.ccd3.specs.declared.SafeTime.{SafeTime}
 use Rattle.ccd3.specs.declared.Counted.{Counted}
 use Rattle.ccd3.specs.SafeTime.{Walked, allowance, safeWalk, safeTimeOf, Promises}
-use Rattle.ccd3.specs.Inner.{counted}
+use Rattle.ccd3.specs.Inner.{countedFrom}
 use Rattle.ccd3.proofs.Handed.{points-fit}
 use Rattle.ccd3.proofs.Admitted.{Fitting}
 use Rattle.ccd3.proofs.Promises.{safe-time-promised}
@@ -33,7 +33,7 @@ fitting c =
 abbrev told : Counted → SafeTime
 told k = record { answer = k .ending .answer; probes = k .probes; halvings = k .ending .halvings }
 
-told-all : (w : Walked) → told (counted 0 w)
+told-all : (w : Walked) → told (countedFrom 0 w)
     ≡ record { answer = w .ending .answer; probes = length (w .probed); halvings = w .ending .halvings }
 told-all w i = record {
   answer = w .ending .answer;

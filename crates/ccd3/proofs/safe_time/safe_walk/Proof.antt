@@ -1,7 +1,7 @@
 -- `ccd3::safe_time::safe_walk` meets its contract, by either way through its test. Assumes nothing.
 use mathlib.Core.Path.{sym, ap, _∙_}
 use borrow.Author.Needs.{needs}
-use Rattle.ccd3.specs.Inner.{counted}
+use Rattle.ccd3.specs.Inner.{countedFrom}
 use Rattle.ccd3.proofs.StartLaws.{number-admission, safe-refused}
 use Rattle.ccd3.proofs.safe_time.safe_walk.Statement.{statement}
 use Rattle.ccd3.proofs.safe_time.safe_walk.Tie as tie
@@ -21,7 +21,7 @@ returns-2 c =
     let number = number-admission (a .x0) (a .dx) (a .split) (a .limits) (admission .admit-walk .result)
     (sym (admission .admit-walk .ensures)) other in
     c .still .ensures
-    ∙ ap (counted 0) (sym (safe-refused (a .x0) (a .dx) (a .split) (a .limits) (a .allowance) _ number other))
+    ∙ ap (countedFrom 0) (sym (safe-refused (a .x0) (a .dx) (a .split) (a .limits) (a .allowance) _ number other))
 
 pub safe-walk-spec : {M : Type 1} → statement M
 safe-walk-spec =

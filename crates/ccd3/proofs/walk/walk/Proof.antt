@@ -14,7 +14,7 @@ use Rattle.ccd3.specs.declared.Ending.{Ending}
 use Rattle.ccd3.specs.declared.Counted.{Counted}
 use Rattle.ccd3.specs.declared.Answer.the-variants.{Clear}
 use Rattle.ccd3.specs.SafeTime.{Visit, squaredAt, above, visit, unbracketed, walk}
-use Rattle.ccd3.specs.Inner.{counted}
+use Rattle.ccd3.specs.Inner.{countedFrom}
 use Rattle.ccd3.proofs.WalkLoop.{walkFrom, clears, spends, meets, steps}
 use Rattle.ccd3.proofs.walk.walk.Statement.{statement}
 use Rattle.ccd3.proofs.walk.walk.Tie as tie
@@ -27,7 +27,7 @@ at time points near = record { time = time; points = points; near = near }
 abbrev Inv-loop : tie.InvT-loop
 Inv-loop x0 dx split threshold l allowance time₀ x₀ near₀ probes₀ time x near probes =
     Capped (walkFrom x0 dx split threshold l) allowance
-    (counted 0 (walk x0 dx split threshold l allowance (at zero32 x0 near₀))) probes (probes, at time x near)
+    (countedFrom 0 (walk x0 dx split threshold l allowance (at zero32 x0 near₀))) probes (probes, at time x near)
 
 abbrev μ-loop : tie.MeasureT-loop
 μ-loop x0 dx split threshold l allowance time₀ x₀ near₀ probes₀ time x near probes = allowance - probes
