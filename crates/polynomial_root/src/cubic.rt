@@ -1,6 +1,10 @@
 // The roots in 0..t of a polynomial of degree three at most, for any numbers (polynomial_root.rs,
 // `cubic_roots_in_range_zero_to_t`).
 ghost use mathlib.Core.Path.{_≡_};
+ghost use mathlib.Core.Bool.{_&&_};
+ghost use lib.Ieee.{le};
+ghost use Rattle.number.specs.Number.{zero32};
+ghost use Rattle.number.specs.Number as Number;
 ghost use Rattle.polynomial_root.specs.Roots as Def;
 use crate::answer::Roots;
 use crate::answer::push;
@@ -49,12 +53,36 @@ fn start(p: Cubic) -> End
     End { x: 0.0, f: p.c0 }
 }
 
-// The root in a part of 0..t, where the part is there.
-fn part_root(p: Cubic, t: f32, epsilon: f32, there: bool, a: End, b: End) -> Found
-    ensures { λ f. ⌜ f ≡ Def.partRoot p t epsilon there a b ⌝ }
+// The root in the part of 0..t before the slope's first root, where that part is there.
+fn first_part(p: Cubic, t: f32, epsilon: f32, e0: f32) -> Found
+    ensures { λ f. ⌜ f ≡ Def.partRoot p t epsilon (le zero32 e0) (Def.start p) (Def.endAt p (Number.smaller t e0)) ⌝ }
 {
-    if there {
-        span_root(p, t, epsilon, a, b)
+    if 0.0 <= e0 {
+        span_root(p, t, epsilon, start(p), end_at(p, smaller(t, e0)))
+    } else {
+        Found::Nothing
+    }
+}
+
+// In the part between the slope's roots.
+fn middle_part(p: Cubic, t: f32, epsilon: f32, e0: f32, e1: f32) -> Found
+    ensures { λ f. ⌜ f ≡ Def.partRoot p t epsilon (le e0 t && le zero32 e1)
+        (Def.endAt p (Number.larger zero32 e0)) (Def.endAt p (Number.smaller t e1)) ⌝ }
+{
+    if (e0 <= t) & (0.0 <= e1) {
+        let from = end_at(p, larger(0.0, e0));
+        span_root(p, t, epsilon, from, end_at(p, smaller(t, e1)))
+    } else {
+        Found::Nothing
+    }
+}
+
+// In the part behind the slope's second root.
+fn last_part(p: Cubic, t: f32, epsilon: f32, e1: f32) -> Found
+    ensures { λ f. ⌜ f ≡ Def.partRoot p t epsilon (le e1 t) (Def.endAt p (Number.larger zero32 e1)) (Def.endAt p t) ⌝ }
+{
+    if e1 <= t {
+        span_root(p, t, epsilon, end_at(p, larger(0.0, e1)), end_at(p, t))
     } else {
         Found::Nothing
     }
@@ -67,14 +95,9 @@ fn span_roots(p: Cubic, t: f32, epsilon: f32, s: Solved) -> Roots
     match s {
         Solved::Neither => after(refused(0), span_root(p, t, epsilon, start(p), end_at(p, t))),
         Solved::Both(e0, e1) => {
-            let x0 = end_at(p, smaller(t, e0));
-            let first = part_root(p, t, epsilon, 0.0 <= e0, start(p), x0);
-            let x1 = end_at(p, larger(0.0, e0));
-            let x2 = end_at(p, smaller(t, e1));
-            let middle = part_root(p, t, epsilon, (e0 <= t) & (0.0 <= e1), x1, x2);
-            let x3 = end_at(p, larger(0.0, e1));
-            let last = part_root(p, t, epsilon, e1 <= t, x3, end_at(p, t));
-            after(after(after(refused(0), first), middle), last)
+            let first = after(refused(0), first_part(p, t, epsilon, e0));
+            let middle = after(first, middle_part(p, t, epsilon, e0, e1));
+            after(middle, last_part(p, t, epsilon, e1))
         }
     }
 }

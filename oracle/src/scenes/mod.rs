@@ -8,6 +8,8 @@ use std::collections::BTreeMap;
 use std::io::Write;
 use std::path::Path;
 use std::process::{Command, Stdio};
+use std::sync::atomic::{AtomicUsize, Ordering};
+use std::thread;
 
 use self::made::{damaged, random};
 use self::scene::{listing, MOST};
@@ -56,6 +58,38 @@ fn kinds(listing: &str) -> impl Iterator<Item = String> + '_ {
     })
 }
 
+/// What one file showed: the kinds of its lines, and how the program answered it wrongly, if it did.
+struct Shown {
+    kinds: Vec<String>,
+    fault: Option<String>,
+}
+
+fn shown(program: &[String], file: &[u8]) -> Shown {
+    let expected = listing(file);
+    let fault = fault(program, file, &expected).map(|found| {
+        let hex: String = file.iter().take(400).map(|byte| format!("{byte:02x}")).collect();
+        format!("FAULT on the {} bytes {hex}\n  expected\n{expected}  {found}", file.len())
+    });
+    Shown { kinds: kinds(&expected).collect(), fault }
+}
+
+/// Each file's, with as many programs at a time as the machine has processors.
+fn all_shown(program: &[String], files: &[&Vec<u8>]) -> Vec<Shown> {
+    let next = AtomicUsize::new(0);
+    let workers = thread::available_parallelism().map_or(1, |n| n.get());
+    let work = || {
+        let mut mine = Vec::new();
+        while let Some(file) = files.get(next.fetch_add(1, Ordering::Relaxed)) {
+            mine.push(shown(program, file));
+        }
+        mine
+    };
+    thread::scope(|scope| {
+        let started: Vec<_> = (0..workers).map(|_| scope.spawn(work)).collect();
+        started.into_iter().flat_map(|worker| worker.join().expect("a worker ends")).collect()
+    })
+}
+
 /// Runs the program on every file, its damaged copies and random scenes. Answers whether all is well.
 pub fn test(files: &[String], program: &[String]) -> bool {
     let good: Vec<Vec<u8>> = files.iter().map(|name| read(name)).collect();
@@ -63,27 +97,20 @@ pub fn test(files: &[String], program: &[String]) -> bool {
     let sizes = (1..=100).chain([256, 257, 500, MOST, MOST]);
     let randoms: Vec<Vec<u8>> = sizes.map(|count| random(&mut source, count).bytes()).collect();
     let copies: Vec<Vec<u8>> = good.iter().flat_map(|file| damaged(file)).collect();
+    let all: Vec<&Vec<u8>> = good.iter().chain(&copies).chain(&randoms).collect();
 
+    let shown = all_shown(program, &all);
+    let faults: Vec<&String> = shown.iter().filter_map(|one| one.fault.as_ref()).collect();
+    for fault in faults.iter().take(5) {
+        println!("{fault}");
+    }
     let mut met: BTreeMap<String, u64> = MET.iter().map(|name| (name.to_string(), 0)).collect();
-    let mut faults = 0;
-    let all = good.iter().chain(&copies).chain(&randoms);
-    for file in all.clone() {
-        let expected = listing(file);
-        for kind in kinds(&expected) {
-            met.entry(kind).and_modify(|n| *n += 1);
-        }
-        if let Some(fault) = fault(program, file, &expected) {
-            faults += 1;
-            let hex: String = file.iter().take(400).map(|byte| format!("{byte:02x}")).collect();
-            println!("FAULT on the {} bytes {hex}\n  expected\n{expected}  {fault}", file.len());
-            if faults == 5 {
-                break;
-            }
-        }
+    for kind in shown.iter().flat_map(|one| &one.kinds) {
+        met.entry(kind.clone()).and_modify(|n| *n += 1);
     }
     let counts: Vec<String> = met.iter().map(|(name, n)| format!("{name}: {n}")).collect();
-    println!("{} scenes, {}; {faults} faults", all.count(), counts.join(", "));
-    faults == 0 && met.values().all(|&n| n > 0)
+    println!("{} scenes, {}; {} faults", shown.len(), counts.join(", "), faults.len());
+    shown.len() == all.len() && faults.is_empty() && met.values().all(|&n| n > 0)
 }
 
 fn read(name: &str) -> Vec<u8> {
