@@ -2,7 +2,7 @@
 -- some number is not finite; 2 exactly where all are and something lies beyond its range. Assumes nothing.
 use Prim.Native.Nat.{ℕ, zero, suc, _<_}
 use native.Mathlib.Omega.{arith}
-use mathlib.Core.Path.{_≡_, sym, subst}
+use mathlib.Core.Path.{_≡_}
 use mathlib.Core.Logic.{_⊎_, inl, inr, _↔_}
 use mathlib.Core.Bool.{Bool, true, false, not, _&&_, _||_}
 use mathlib.Core.List.{List}
@@ -12,8 +12,8 @@ use lib.Ieee.Fits.{and-i, and-l, and-r}
 use Rattle.number.specs.Number.{isFinite, inBound, zeroToBound, zeroToOne, speedRange, refusal}
 use Rattle.number.proofs.Answers.{refusal-none, refusal-first, refusal-second, ranged-none, ranged-beyond}
 use Rattle.number.proofs.Comparing.{all-three, all-four}
-use Rattle.number.proofs.Within.{Within, within-finite}
-use Rattle.number.proofs.Finite.{is-finite}
+use Rattle.number.proofs.Within.{Within}
+use Rattle.number.proofs.Finite.{within-real, bound-real}
 use Rattle.number.proofs.Ranges.{in-bound, zero-to-bound, zero-to-one, speed-range}
 use Rattle.geometry.proofs.Bounds.{Each}
 use Rattle.geometry.specs.Geometry.{at, col}
@@ -53,12 +53,6 @@ unfolding boundedPoints
 points-within x h i j k l = in-bound (at (col x i) j) (twelve-each inBound x h i j k l)
 
 -- ---- what lies in its range is finite
-pub within-real : (a : ℕ) (x : Float) → Within a x → T (isFinite x)
-within-real a x h = subst T (sym (is-finite x)) (within-finite a x h)
-
-bound-real : (x : Float) → T (inBound x) → T (isFinite x)
-bound-real x h = within-real 20 x (in-bound x h)
-
 three-real : (v : List Float) → T (ofThree inBound v) → T (ofThree isFinite v)
 three-real v h =
     let t = all-three (inBound (at v 0)) (inBound (at v 1)) (inBound (at v 2)) h in

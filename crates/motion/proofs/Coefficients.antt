@@ -20,7 +20,8 @@ use Rattle.polynomial_root.specs.Roots as Made
 use Rattle.polynomial_root.specs.Roots.{cubicRefusal, cubicRootsInRange, cubicRoots}
 use Rattle.polynomial_root.proofs.Admitted.{finiteCubic, rangedCubic}
 use Rattle.admission.specs.Admission.{finitePoints, boundedPoints, motionRefusal}
-use Rattle.admission.proofs.Admitted.{within-real, points-within, motion-admits, motion-first}
+use Rattle.number.proofs.Finite.{within-real}
+use Rattle.admission.proofs.Admitted.{points-within, motion-admits, motion-first}
 use Rattle.motion.specs.Motion.{volume, motionCubic, coplanarTimes}
 use Rattle.motion.proofs.Refusals.{cubic-refusal}
 

@@ -1,6 +1,6 @@
--- The finite f32 values: `isFinite` (specs/Number.antt) is a comparison with the largest of them, either way.
--- Assumes nothing.
-use mathlib.Core.Path.{_≡_, refl, sym}
+-- The finite f32 values: `isFinite` (specs/Number.antt) is a comparison with the largest of them, either way; and what lies
+-- in its range is finite. Assumes nothing.
+use mathlib.Core.Path.{_≡_, refl, sym, subst}
 use mathlib.Core.Bool.{true, false}
 use Prim.Native.Nat.{ℕ, _*_, _^_}
 use native.Mathlib.Nat.{le-trans, le-of-eq, le-of-suc-le-suc}
@@ -10,10 +10,12 @@ use lib.Ieee.{Float, nan, inf, fin, binary32, neg, le, fits, toBits, ofBits}
 use lib.Ieee.Bits.{is-true}
 use lib.Ieee.Fits.{and-i}
 use lib.Ieee.Scale.{finite}
-use Rattle.number.specs.Number.{largest32, isFinite, between}
+use Rattle.number.specs.Number.{largest32, isFinite, between, inBound}
 use Rattle.number.proofs.Units.{shift, fin-false, says-le}
 use Rattle.number.proofs.Comparing.{minus-plus, turned}
 use Rattle.number.proofs.Sizes.{fits-plus}
+use Rattle.number.proofs.Within.{Within, within-finite}
+use Rattle.number.proofs.Ranges.{in-bound}
 use Rattle.number.proofs.Patterns.{val, val-le, bits-are}
 use Rattle.number.proofs.Neighbours.{bits-lt, bits-val}
 
@@ -51,3 +53,10 @@ finite-test (fin true m e) f =
     is-true (between (neg largest32) largest32 x)
     (and-i (le (neg largest32) x) (le x largest32)
     (turned m e 16777215 (pos 104) (under m e (fits-plus true m e f))) (minus-plus m e 16777215 (pos 104)))
+
+-- ---- what lies in its range is finite
+pub within-real : (a : ℕ) (x : Float) → Within a x → T (isFinite x)
+within-real a x h = subst T (sym (is-finite x)) (within-finite a x h)
+
+pub bound-real : (x : Float) → T (inBound x) → T (isFinite x)
+bound-real x h = within-real 20 x (in-bound x h)

@@ -19,7 +19,8 @@ use Rattle.geometry.proofs.CrossPairs.{pairs-keep}
 use Rattle.geometry.specs.Geometry.{at, col, Cross}
 use Rattle.pair.specs.Points.{gapSquare, largestSquare, normOf}
 use Rattle.admission.specs.Admission.{boundedPoints, splitRefusal}
-use Rattle.admission.proofs.Admitted.{within-real, points-within, split-admits}
+use Rattle.number.proofs.Finite.{within-real}
+use Rattle.admission.proofs.Admitted.{points-within, split-admits}
 
 -- what zero has and every cross pair's square, the largest square has
 square-keeps : (P : Float → Type 0) (x : List (List Float)) (split : ℕ) → P zero32

@@ -16,7 +16,8 @@ use Rattle.geometry.proofs.Bounds.{centred-within}
 use Rattle.admission.specs.Admission.{ofThree, ofTwelve, finitePoints, pointsRefusal, factorRefusal, timeRefusal}
 use Rattle.admission.specs.Admission.{ratioRefusal}
 use Rattle.pair.specs.Points.{zeros, placed, movedInto, centredIn, scaledIn}
-use Rattle.admission.proofs.Admitted.{within-real, three-each, points-within, points-admits, factor-admits}
+use Rattle.number.proofs.Finite.{within-real}
+use Rattle.admission.proofs.Admitted.{three-each, points-within, points-admits, factor-admits}
 use Rattle.admission.proofs.Admitted.{time-admits, ratio-admits}
 
 -- three numbers, and twelve, are finite if each is within a power of two
