@@ -1,4 +1,4 @@
--- A loop that follows `halve`, turn by turn (`halve`, number/specs/Number.antt), over the law for loops with a cap.
+-- A loop that follows `halve` (number/specs/Number.antt), turn by turn, over the law for loops with a cap.
 -- Assumes nothing.
 use mathlib.Core.Path.{_≡_, refl, sym, ap, _∙_}
 use mathlib.Core.Logic.{_⊎_, inl, inr}

@@ -1,5 +1,6 @@
 -- The laws of f32 that the other crates cite, from whole numbers up: rounding, units of 2 ^ -149, operations, patterns
--- and neighbours, halvings, order, bounds, signs, then the helpers of this crate.
+-- and neighbours, halvings, order, bounds, signs, then the helpers of this crate; and
+-- loops with a cap.
 pub mod Numbers
 pub mod Rounding
 pub mod Units
