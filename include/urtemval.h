@@ -63,9 +63,9 @@
 #define URTEMVAL_H
 
 /* The version of this header, and of the archive that was made beside it. */
-#define URTEMVAL_VERSION "0.1.0"
+#define URTEMVAL_VERSION "0.2.0"
 #define URTEMVAL_VERSION_MAJOR 0
-#define URTEMVAL_VERSION_MINOR 1
+#define URTEMVAL_VERSION_MINOR 2
 #define URTEMVAL_VERSION_PATCH 0
 
 #include <float.h>
@@ -255,8 +255,9 @@ UrtemvalRoots urtemval_coplanar_times(const UrtemvalPoints *x0, const UrtemvalPo
 
 /*
  * The roots in 0..t of c0 + c1 x + c2 x^2 + c3 x^3: at most three, in the order of the spans between turning points.
- * Of a linear polynomial it is the fraction of the way from 0 to t (at t = 1, the root). Coefficients: size at most
- * 2^20. t: above 0, at most 1. epsilon, the size of a value at which a root is taken as found: 0 to 2^20.
+ * Each lies in 0..t. A linear polynomial's is the fraction of the way from 0 to t at which it crosses zero, times t.
+ * Coefficients: size at most 2^20. t: above 0, at most 1. epsilon, the size of a value at which a root is taken as
+ * found: 0 to 2^20.
  *
  * Refusals: 1 some number is NaN or an infinity; 2 one lies beyond its range; 6 the values at both ends of a span are
  * zero; 7 the first guess lies outside 0..t; 8 a Newton step meets value 0 and slope 0.

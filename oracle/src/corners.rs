@@ -23,7 +23,7 @@ macro_rules! strips {
     };
 }
 
-const CORNERS: [Corner; 18] = [
+const CORNERS: [Corner; 19] = [
     Corner { what: "the root of 0", call: "square_root 0", answer: "0 0" },
     Corner { what: "the root of 2.25", call: "square_root 40100000", answer: "0 3fc00000" },
     Corner { what: "the root of 2^-148", call: "square_root 2", answer: "0 1a800000" },
@@ -40,6 +40,11 @@ const CORNERS: [Corner; 18] = [
         what: "the cubic (-1, 2, 0, 0)",
         call: "cubic_roots_in_range_zero_to_t bf800000 40000000 0 0 3f800000 0",
         answer: "0 1 3f000000 0 0",
+    },
+    Corner {
+        what: "the cubic (-0.25, 1, 0, 0) at t = 0.5",
+        call: "cubic_roots_in_range_zero_to_t be800000 3f800000 0 0 3f000000 0",
+        answer: "0 1 3e800000 0 0",
     },
     Corner {
         what: "the cubic (0.25, -1, 1, 0)",

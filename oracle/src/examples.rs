@@ -29,6 +29,8 @@ pub const EXAMPLES: &[(Entry, &str)] = &[
     (Entry::Guess, "cubic_roots_in_range_zero_to_t 0 3bc00000 3c000000 bf400000 3dc00000 0"),
     (Entry::NoSlope, "cubic_roots_in_range_zero_to_t 0 0 0 3f800000 3f800000 0"),
     (Entry::NoSlope, "cubic_roots_in_range_zero_to_t 0 0 bbb8c400 40000000 3b38c400 0"),
+    (Entry::LinearRange, "cubic_roots_in_range_zero_to_t be800000 3f800000 0 0 3f000000 0"),
+    (Entry::LinearRange, "cubic_roots_in_range_zero_to_t bf800000 40800000 0 0 3e800000 0"),
     (Entry::LeadingZero, "quadratic_root 0 0 0"),
     (Entry::Endless, "normalize_centerized_configuration 3dfd70a4 0 0 0 0 0 0 0 0 0 0 0 0 0 0 0 0 0 0 0 0 0 0 0 0"),
     (

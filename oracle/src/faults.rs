@@ -5,7 +5,7 @@ use std::io::{Read, Write};
 use crate::calls::{decode, Call, BLOCK};
 use crate::compare;
 use crate::functions::Function;
-use crate::model::Rules;
+use crate::model::{Linear, Rules};
 use crate::refusals::refusal_of;
 use crate::sides::by_model;
 use crate::words::Words;
@@ -22,7 +22,7 @@ const NONE: Fault = Fault { name: "none", rules: Rules::DOCUMENT, distort: |_, _
 /// The calls by which each fault has to be caught.
 const CALLS: u64 = 400_000;
 
-const FAULTS: [Fault; 14] = [
+const FAULTS: [Fault; 16] = [
     Fault { name: "interior-of-edges-left-out", rules: Rules { left_out: [Some(4), None], ..Rules::DOCUMENT }, ..NONE },
     Fault { name: "edge-of-face-left-out", rules: Rules { left_out: [None, Some(2)], ..Rules::DOCUMENT }, ..NONE },
     Fault { name: "last-of-equals", rules: Rules { last_of_equals: true, ..Rules::DOCUMENT }, ..NONE },
@@ -34,6 +34,8 @@ const FAULTS: [Fault; 14] = [
         rules: Rules { least_window: 1.0 / 8_388_608.0, ..Rules::DOCUMENT },
         ..NONE
     },
+    Fault { name: "linear-root-not-times-t", rules: Rules { linear: Linear::Alone, ..Rules::DOCUMENT }, ..NONE },
+    Fault { name: "linear-root-held-first", rules: Rules { linear: Linear::HeldFirst, ..Rules::DOCUMENT }, ..NONE },
     Fault { name: "repeated-root-dropped", rules: Rules { drops_repeated: true, ..Rules::DOCUMENT }, ..NONE },
     Fault { name: "root-one-bit-off", rules: Rules { root_off: 1, ..Rules::DOCUMENT }, ..NONE },
     Fault { name: "refusal-7-as-6", distort: |_, answer| renumber(answer, 7, 6), ..NONE },

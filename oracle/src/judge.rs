@@ -4,7 +4,7 @@
 use crate::calls::Call;
 use crate::cover::{self, Branch};
 use crate::functions::{Field, Function};
-use crate::model::Rules;
+use crate::model::{missing, Rules};
 use crate::named::named;
 use crate::refusals::refusal_of;
 use crate::sides::{by_model, by_original, Outcome};
@@ -21,6 +21,7 @@ named! {
         BothZero: "both-zero",
         Guess: "guess",
         NoSlope: "no-slope",
+        LinearRange: "linear-range",
         LeadingZero: "leading-zero",
         Endless: "endless",
         Infinity: "infinity",
@@ -98,7 +99,8 @@ fn relation(call: &Call, refusal: u32, expected: &Words, original: &Outcome) -> 
     }
 }
 
-/// Where both answer: bit for bit, but for the sign of a zero time or root and the counts of a touching pair.
+/// Where both answer: bit for bit, but for the sign of a zero time or root, the counts of a touching pair and a linear
+/// root at t below 1.
 fn answered(call: &Call, expected: &Words, original: &Words) -> Relation {
     let (ours, theirs) = (expected.as_slice(), original.as_slice());
     let times_or_roots = |field: &&Field| matches!(field.name, "time" | "roots" | "root");
@@ -122,7 +124,22 @@ fn answered(call: &Call, expected: &Words, original: &Words) -> Relation {
         Relation::Same
     } else if differing.iter().all(|&i| zeros(i)) {
         Relation::Listed(Entry::PlusZero)
+    } else if short_linear_root(call, expected, original) {
+        Relation::Listed(Entry::LinearRange)
     } else {
         Relation::Unlisted
     }
+}
+
+/// Whether the original answers one root, the fraction of a range shorter than 0..1, and the rules that fraction times t,
+/// held to 0..t. At t = 1 a linear root is compared as any other.
+fn short_linear_root(call: &Call, expected: &Words, original: &Words) -> bool {
+    if call.function != Function::CubicRootsInRangeZeroToT {
+        return false;
+    }
+    let linear = ["c1", "c2", "c3"].map(|name| missing(call.number(name))) == [false, true, true];
+    let [count, root] = ["count", "roots"].map(|name| call.function.answer(name).at);
+    let one = |words: &Words| words.as_slice()[count] == 1;
+    let (t, fraction) = (call.number("t"), original.number(root));
+    linear && t < 1.0 && one(expected) && one(original) && expected.number(root) == (fraction * t).clamp(0.0, t)
 }

@@ -4,7 +4,7 @@ use mathlib.Core.Path.{sym, subst}
 use mathlib.Core.Bool.{Bool, true, false, cond, _&&_, _||_}
 use lib.Dec.{eqb}
 use lib.Ieee.{Float, lt, le, eq}
-use Rattle.number.specs.Number.{_⊖_, _⊗_, _⊘_, zero32, size, smaller, larger, between}
+use Rattle.number.specs.Number.{_⊖_, _⊗_, _⊘_, zero32, size, smaller, larger, clamp, between}
 use Rattle.polynomial_root.specs.declared.answer.Roots.{Roots}
 use Rattle.polynomial_root.specs.declared.cubic.Cubic.{Cubic}
 use Rattle.polynomial_root.specs.declared.newton.Found.{Found}
@@ -14,8 +14,8 @@ use Rattle.polynomial_root.specs.declared.quadratic.Solved.the-variants.{Neithe
 use Rattle.polynomial_root.specs.declared.span.End.{End}
 use Rattle.polynomial_root.specs.Roots.{none, refused, push, two32, solved, three32, valueAt, slopeAt, stepped}
 use Rattle.polynomial_root.specs.Roots.{bothZero, descend, newtonSteps, endAt, started, spanRoot, vanishes, opposite}
-use Rattle.polynomial_root.specs.Roots.{linearRoots, keep, keptRoots, lowerRoots, joined, after, start, spanRoots}
-use Rattle.polynomial_root.specs.Roots.{cubicRoots}
+use Rattle.polynomial_root.specs.Roots.{fraction, linearRoots, keep, keptRoots, lowerRoots, joined, after, start}
+use Rattle.polynomial_root.specs.Roots.{spanRoots, cubicRoots}
 use Rattle.polynomial_root.proofs.Places.{push-refusal}
 
 -- a property of the number 0, for no refusal, and of 6, 7 and 8
@@ -101,14 +101,14 @@ module _ (P : ℕ → Type 0) (p0 : P 0) (p6 : P 6) (p7 : P 7) (p8 : P 8) where
       go true = push-has none zero32 p0
       go false = p0
 
-  linear-has : (a b : Float) → Has (linearRoots a b)
+  linear-has : (t a b : Float) → Has (linearRoots t a b)
   unfolding linearRoots
-  linear-has a b = go (opposite a b) (bothZero a b)
+  linear-has t a b = go (opposite a b) (bothZero a b) (clamp (fraction a b ⊗ t) zero32 t)
     where
-      go : (k l : Bool) → Has (cond k (cond l (refused 6) (push none (a ⊘ (a ⊖ b)))) none)
-      go true true = p6
-      go true false = push-has none (a ⊘ (a ⊖ b)) p0
-      go false l = p0
+      go : (k l : Bool) (r : Float) → Has (cond k (cond l (refused 6) (push none r)) none)
+      go true true r = p6
+      go true false r = push-has none r p0
+      go false l r = p0
 
   keep-has : (t : Float) (a : Roots) (r : Float) → Has a → Has (keep t a r)
   unfolding keep
@@ -132,9 +132,9 @@ module _ (P : ℕ → Type 0) (p0 : P 0) (p6 : P 6) (p7 : P 7) (p8 : P 8) where
 
       go : (k l : Bool)
           → Has (cond k (cond l (cond (vanishes (p .c0)) (push none zero32) none)
-          (linearRoots (p .c0) (valueAt p t))) two)
+          (linearRoots t (p .c0) (valueAt p t))) two)
       go true true = constant-has (p .c0)
-      go true false = linear-has (p .c0) (valueAt p t)
+      go true false = linear-has t (p .c0) (valueAt p t)
       go false l = kept-has t (solved (p .c0) (p .c1) (p .c2))
 
   pub cubic-refusal : (p : Cubic) (t epsilon : Float) → P (cubicRoots p t epsilon .refusal)

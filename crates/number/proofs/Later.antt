@@ -47,7 +47,8 @@ unfolding units
 units-over s q k h =
     cond-of (ltb (q * 2 ^ k) Top) (odd 25 s q k 149) (inf s) (λ t. not-le-of-lt (ltb→lt (q * 2 ^ k) Top t) h)
 
-round-over : (s : Bool) (a c : ℕ) → Top ≤ rnd (a * L) c → round binary32 s a c ≡ inf s
+-- what is too large rounds to the infinity
+pub round-over : (s : Bool) (a c : ℕ) → Top ≤ rnd (a * L) c → round binary32 s a c ≡ inf s
 round-over s a c h = round-is binary32 s a c ∙ units-over s (kept 24 (a * L) c) (drop 24 (a * L) c) h
 
 le-inf : (t : Float) → T (finite t) → T (le t (inf false))

@@ -1,16 +1,16 @@
--- A number moved by zero times a finite number is alike (`Alike`) to itself: a finite f32 is what its own fraction
--- rounds to, so that only the sign of a zero can change. Assumes nothing.
-use mathlib.Core.Path.{_≡_, sym, ap, _∙_, subst}
+-- A finite f32 is what its own fraction rounds to. So a number times one is itself, bit for bit, and one moved by zero
+-- times a finite number is alike (`Alike`) to itself: only the sign of a zero can change. Assumes nothing.
+use mathlib.Core.Path.{_≡_, refl, sym, ap, _∙_, subst}
 use Prim.Native.Nat.{ℕ, zero, suc, _*_, _^_, _<_}
 use native.Mathlib.Nat.{zero-mul, mul-one, mul-pos, zero-lt-suc}
-use mathlib.Core.Bool.{Bool, false}
+use mathlib.Core.Bool.{Bool, true, false}
 use lib.Dec.{T, lit<}
 use lib.IntN.{ℤ}
 use lib.Ieee.{Float, nan, inf, fin, binary32, up, down, unlike, round, add, mul, fits, ofBits}
 use lib.Ieee.Exact.{HasValue}
 use lib.Ieee.Fits.{up-pos, down-pos, round-fits}
 use lib.Ieee.Scale.{finite}
-use Rattle.number.specs.Number.{_⊕_, _⊗_, zero32}
+use Rattle.number.specs.Number.{_⊕_, _⊗_, zero32, one32}
 use Rattle.number.proofs.Rounding.{rnd, rnd-fix}
 use Rattle.number.proofs.Units.{L, Top, Unit32, shift, fin-false, same-float}
 use Rattle.number.proofs.Sums.{round-at}
@@ -48,7 +48,23 @@ round-own s m e f = go (round binary32 s (m * up e) (down e)) (round-fits binary
         ∙ ap (signed s)
         (same-float (fin false n d) (fin false m e) u (fits-plus t n d g) (fits-plus s m e f) tt tt (h .1) (i .is))
 
--- so a number without digits that fits is a zero
+-- ---- a number times one, NaN and infinities too
+pub times-one : (x : Float) → T (fits binary32 x) → x ⊗ one32 ≡ x
+unfolding mul ofBits
+times-one nan f = refl
+times-one (inf true) f = refl
+times-one (inf false) f = refl
+times-one (fin s m e) f =
+    ap (λ (b : Bool). round binary32 b (m * up e * 1) (down e * 1)) (own-sign s)
+    ∙ ap (λ (x : ℕ). round binary32 s x (down e * 1)) (mul-one (m * up e))
+    ∙ ap (λ (x : ℕ). round binary32 s (m * up e) x) (mul-one (down e))
+    ∙ round-own s m e f
+  where
+    own-sign : (s : Bool) → unlike s false ≡ s
+    own-sign true = refl
+    own-sign false = refl
+
+-- a number without digits that fits is a zero
 fits-zero : (s : Bool) (e : ℤ) → T (fits binary32 (fin s 0 e)) → Zero (fin s 0 e)
 fits-zero s e f = subst Zero (round-own s 0 e f) (round-none s (0 * up e) (down e) (zero-mul (up e)) (down-pos e))
 

@@ -34,6 +34,8 @@ Corners =
     × (quadraticRoot zero32 zero32 one32 ≡ found 2 zero32 zero32 zero32)
     × (quadraticRoot one32 one32 zero32 ≡ refused 9)
     × (cubicAt (neg one32) two32 zero32 zero32 zero32 ≡ found 1 half32 zero32 zero32)
+    × (cubicRootsInRange (cubicOf (neg quarter32) one32 zero32 zero32) half32 zero32
+    ≡ found 1 quarter32 zero32 zero32)
     × (cubicAt quarter32 (neg one32) one32 zero32 zero32 ≡ found 2 half32 half32 zero32)
     × (cubicAt zero32 zero32 zero32 one32 tiny32 ≡ found 3 zero32 zero32 zero32)
     × (cubicAt zero32 zero32 zero32 one32 zero32 ≡ refused 8)
@@ -43,4 +45,4 @@ unfolding
     quadraticRoot solvedRoots cubicRootsInRange cubicRoots spanRoots after joined
     spanRoot started descend lowerRoots keptRoots keep linearRoots solved push written
     rootOf last rootAtLeast twiceMiddle twiceRootSquared unitsOf isFinite size smaller larger clamp ofBits neg add sub mul div lt le eq
-corners = (root-corners, refl, refl, refl, refl, refl, refl, refl, refl)
+corners = (root-corners, refl, refl, refl, refl, refl, refl, refl, refl, refl)

@@ -1,15 +1,15 @@
--- What is no NaN: a quotient whose two parts are not both zero, a difference from a finite number. And how large the
--- value and the slope of a cubic can be in 0..1. Assumes nothing.
+-- What is no NaN: a quotient whose two parts are not both zero, a difference from a finite number, a product of finite
+-- ones. And how large the value and the slope of a cubic can be in 0..1. Assumes nothing.
 use Prim.Native.Nat.{ℕ, suc, _+_, _-_, _*_, _≤_}
 use native.Mathlib.Nat.{add-zero}
 use native.Mathlib.Omega.{arith}
 use mathlib.Core.Path.{_≡_, subst}
 use mathlib.Core.Bool.{Bool, true, false, not, _&&_, cond, Bool·beq}
 use lib.Dec.{T, ltb, eqb, eqb→eq, lit≤}
-use lib.Ieee.{Float, nan, inf, fin, binary32, up, down, round, sum, add, sub, div, neg, eq, isNan, unlike, ofBits}
+use lib.Ieee.{Float, nan, inf, fin, binary32, up, down, round, sum, add, sub, mul, div, neg, eq, isNan, unlike, ofBits}
 use lib.Ieee.Fits.{and-i}
 use lib.Ieee.Scale.{finite}
-use Rattle.number.specs.Number.{_⊕_, _⊖_, _⊗_, _⊘_, zero32}
+use Rattle.number.specs.Number.{_⊕_, _⊖_, _⊗_, _⊘_, zero32, one32}
 use Rattle.number.proofs.Within.{Within, within-more, add-within, mul-within, round-no-nan}
 use Rattle.polynomial_root.specs.Roots.{two32, three32, valueAt, slopeAt}
 use Rattle.polynomial_root.specs.declared.cubic.Cubic.{Cubic}
@@ -52,7 +52,16 @@ difference-no-nan (fin s m e) (inf t) f h = unfold add isNan in tt
 difference-no-nan (fin s m e) (fin t n d) f h =
     sum-no-nan s (m * up e * down d) (not t) (n * up d * down e) (down e * down d)
 
+-- ---- products
+pub product-no-nan : (x y : Float) → T (finite x) → T (finite y) → T (not (isNan (x ⊗ y)))
+unfolding mul
+product-no-nan (fin s m e) (fin t n d) f g = round-no-nan (unlike s t) (m * up e * (n * up d)) (down e * down d)
+
 -- ---- the constants
+pub one-within : Within 0 one32
+unfolding ofBits
+one-within = lit≤ tt
+
 pub two-within : Within 1 two32
 unfolding ofBits
 two-within = lit≤ tt

@@ -1,4 +1,4 @@
--- The linear root a / (a - b), for a and b on opposite sides of zero and not both zero, lies in 0..1: the computed
+-- The fraction a / (a - b), for a and b on opposite sides of zero and not both zero, lies in 0..1: the computed
 -- difference has the sign of a, where a is not zero, and is no smaller than a. Assumes nothing.
 use Prim.Native.Nat.{ℕ, _+_, _*_, _^_, _≤_, _<_, zero-le}
 use native.Mathlib.Nat.{le-trans, le-of-eq, add-comm, one-mul, zero-mul, mul-pos, mul-le-mul-right}
@@ -6,26 +6,26 @@ use native.Mathlib.Nat.{le-of-mul-le-mul-right, eq-zero-or-pos, eq-or-lt-of-le}
 use native.Mathlib.Omega.{arith}
 use mathlib.Core.Path.{_≡_, refl, sym, ap, _∙_, subst}
 use mathlib.Core.Logic.{_⊎_, inl, inr}
-use mathlib.Core.Bool.{Bool, true, false, _&&_, _||_, cond, false≢true}
-use lib.IntN.{ℤ}
+use mathlib.Core.Bool.{Bool, true, false, not, _&&_, _||_, cond, false≢true}
+use lib.IntN.{ℤ, pos}
 use lib.Dec.{T, ltb, eqb, lt→ltb, eqb→eq, lit<, lit≤}
 use lib.Pow.{pow-pos}
-use lib.Ieee.{Float, nan, inf, fin, binary32, up, down, round, div, lt, le, eq, unlike, fits, ofBits}
+use lib.Ieee.{Float, nan, inf, fin, binary32, up, down, round, add, sub, div, neg, lt, le, eq, unlike, fits, ofBits}
 use lib.Ieee.Fits.{down-pos, and-i, and-l, and-r, eq→eqb}
-use lib.Ieee.Exact.{HasValue}
+use lib.Ieee.Scale.{finite}
 use Rattle.number.specs.Number.{_⊖_, _⊘_, zero32, one32, between}
 use Rattle.number.proofs.Rounding.{rnd, rnd-fix}
 use Rattle.number.proofs.Units.Compared.{L, left, right, no-size, says-le}
 use Rattle.number.proofs.Units.{zero-is, Top, Unit32, shift}
 use Rattle.number.proofs.Sums.Rounded.{round-at, to-is-minus}
 use Rattle.number.proofs.Later.{grows}
-use Rattle.number.proofs.Within.{Within, within-more, within-units, round-within}
+use Rattle.number.proofs.Within.{Within, round-within}
 use Rattle.number.proofs.Comparing.{or-l, or-r}
 use Rattle.number.proofs.Plus.{round-plus}
 use Rattle.number.proofs.Signs.{plus-up}
-use Rattle.polynomial_root.specs.Roots.{bothZero, opposite}
-use Rattle.polynomial_root.proofs.Zeros.{zero-eq, low-zero, high-zero}
-use Rattle.polynomial_root.proofs.Differences.{zero-of, pos-of, units-of, no-overflow, Sides, difference}
+use Rattle.polynomial_root.specs.Roots.{bothZero, opposite, fraction}
+use Rattle.polynomial_root.proofs.Zeros.{zero-eq, zero-high, low-zero, high-zero}
+use Rattle.polynomial_root.proofs.Differences.{zero-of, pos-of, units-of, Sides, Sum, difference}
 
 -- ---- the quotient of a by the difference
 pub within-one : (x : Float) → Within 0 x → T (le x one32)
@@ -136,10 +136,30 @@ sides false m e false n d h =
       | inr q ↦ inr (inr (low-zero n d (and-r (le zero32 a) (le b zero32) q)))
     ]
 
--- ---- the theorem
-pub linear-in-range : (a b : Float) → T (fits binary32 a) → T (fits binary32 b) → Within 20 a → Within 23 b
-    → opposite a b ≡ true → bothZero a b ≡ false → T (between zero32 one32 (a ⊘ (a ⊖ b)))
-linear-in-range (fin s m e) (fin t n d) f g h k o z = over (fin s m e ⊖ fin t n d) (x .0) (x .1) (x .2)
+-- ---- the theorem: of a finite number, and whatever the other is, the fraction lies in 0..1
+-- a NaN is on no side
+no-side : (a : Float) → opposite a nan ≡ true → ⊥
+unfolding le lt eq ofBits
+no-side a = go (le a zero32) (le zero32 a)
+  where
+    go : (p q : Bool) → ((p && false) || (q && false)) ≡ true → ⊥
+    go true true h = false≢true h
+    go true false h = false≢true h
+    go false true h = false≢true h
+    go false false h = false≢true h
+
+-- over an infinity it is a zero
+over-infinity : (a : Float) (b : Bool) → T (finite a) → T (between zero32 one32 (a ⊘ inf b))
+unfolding div
+over-infinity (fin s m e) b f =
+    let x = fin (unlike s b) 0 (pos 0) in
+    and-i (le zero32 x) (le x one32) (zero-high (unlike s b) 0 (pos 0) refl) (within-one x zero-le)
+
+pub fraction-in-range : (a b : Float) → T (fits binary32 a) → T (fits binary32 b) → T (finite a)
+    → opposite a b ≡ true → bothZero a b ≡ false → T (between zero32 one32 (fraction a b))
+fraction-in-range (fin s m e) nan f g h o z = absurd (no-side (fin s m e) o)
+fraction-in-range (fin s m e) (inf t) f g h o z = unfold sub add neg in over-infinity (fin s m e) (not t) tt
+fraction-in-range (fin s m e) (fin t n d) f g h o z = over (fin s m e ⊖ fin t n d) (x .0) (x .1) (x .2)
   where
     u : ℕ
     u = m * 2 ^ shift e
@@ -168,16 +188,14 @@ linear-in-range (fin s m e) (fin t n d) f g h k o z = over (fin s m e ⊖ fin t 
         second : (u v : ℕ) → u + v ≡ 0 → v ≡ 0
         second u v y = omega arith
 
-    x : (b : Bool) × HasValue (fin s m e ⊖ fin t n d) b (rnd (u + v) 1) L × (0 < u → b ≡ s)
-    x =
-        difference s m e t n d u v (p .is) (q .is) (sides s m e t n d o) some
-        (no-overflow u v
-        (within-units 23 (fin false m e) u (p .is) (within-more 20 23 (fin false m e) (lit≤ tt) h))
-        (within-units 23 (fin false n d) v (q .is) k))
+    x : (b : Bool) × Sum s m e t n d u v (p .is) (q .is) b (fin s m e ⊖ fin t n d) × (0 < u → b ≡ s)
+    x = difference s m e t n d u v (p .is) (q .is) (sides s m e t n d o) some
 
-    over : (y : Float) (b : Bool) → HasValue y b (rnd (u + v) 1) L → (0 < u → b ≡ s)
+    over : (y : Float) (b : Bool) → Sum s m e t n d u v (p .is) (q .is) b y → (0 < u → b ≡ s)
         → T (between zero32 one32 (fin s m e ⊘ y))
-    over (fin r i j) b (same, w) sign =
+    over y b (inr i) sign =
+        subst (λ (y : Float). T (between zero32 one32 (fin s m e ⊘ y))) (sym i) (over-infinity (fin s m e) b tt)
+    over (fin r i j) b (inl (same, w)) sign =
         quotient s m e r i j u (rnd (u + v) 1) (p .is) w (grows u v (p .rep))
         (positive (rnd (u + v) 1) (grows u v (p .rep))
         (subst (λ (w : ℕ). v ≤ rnd w 1) (add-comm v u) (grows v u (q .rep))))

@@ -1,19 +1,19 @@
 -- Twice and three times a number that is not zero is not zero: nothing is lost in doubling c2, or in the slope's 3 c3.
 -- Assumes nothing.
 use Prim.Native.Nat.{ℕ, _+_, _*_, _^_, _≤_, _<_}
-use native.Mathlib.Nat.{lt-of-lt-of-le, mul-pos, eq-zero-or-pos}
+use native.Mathlib.Nat.{le-trans, le-of-eq, lt-of-lt-of-le, lt-of-le-of-lt, mul-pos, eq-zero-or-pos}
 use native.Mathlib.Omega.{arith}
 use mathlib.Core.Path.{_≡_, refl, sym, subst}
 use mathlib.Core.Logic.{inl, inr}
 use mathlib.Core.Bool.{Bool, true, false, _||_, Bool·beq}
 use lib.IntN.{ℤ}
-use lib.Dec.{T, eqb, eqb→eq}
+use lib.Dec.{T, eqb, eqb→eq, lit<}
 use lib.Pow.{pow-pos}
 use lib.Ieee.{Float, fin, binary32, up, down, round, mul, eq, unlike, fits, ofBits}
 use lib.Ieee.Fits.{down-pos, and-l}
 use lib.Ieee.Exact.{HasValue}
 use Rattle.number.specs.Number.{_⊗_, zero32}
-use Rattle.number.proofs.Rounding.{rnd}
+use Rattle.number.proofs.Rounding.{rnd, rnd-mono, rnd-fix}
 use Rattle.number.proofs.Units.Compared.{L}
 use Rattle.number.proofs.Units.{Top, shift}
 use Rattle.number.proofs.Sums.Rounded.{round-at, round-units}
@@ -21,7 +21,7 @@ use Rattle.number.proofs.Later.{grows}
 use Rattle.number.proofs.Within.{Within, within-units}
 use Rattle.polynomial_root.specs.Roots.{two32, three32}
 use Rattle.polynomial_root.proofs.Zeros.{zero-eq}
-use Rattle.polynomial_root.proofs.Differences.{zero-of, pos-of, units-of, no-overflow}
+use Rattle.polynomial_root.proofs.Differences.{zero-of, pos-of, units-of}
 
 pub not-so : (b : Bool) → (T b → ⊥) → b ≡ false
 not-so true h = absurd (h tt)
@@ -40,6 +40,17 @@ some-eq (fin t m e) s w l (same, q) = not-so (eq (fin t m e) zero32) none
       where
         clash : (a b : ℕ) → a * 1 ≡ 0 * b → 0 < a → ⊥
         clash a b z l = omega arith
+
+-- what is rounded from a sum of 2 ^ 24 at most does not overflow
+no-overflow : (u v : ℕ) → u ≤ 2 ^ 23 * L → v ≤ 2 ^ 23 * L → rnd (u + v) 1 < Top
+no-overflow u v h k =
+    lt-of-le-of-lt
+    (le-trans (rnd-mono (u + v) 1 (2 ^ 24 * L * 1) 1 (pow-pos 0) (pow-pos 0) (enough u v L h k))
+    (le-of-eq (rnd-fix (2 ^ 24 * L) 1 (pow-pos 0) (1, 173, lit< tt, refl))))
+    (lit< tt)
+  where
+    enough : (u v l : ℕ) → u ≤ 2 ^ 23 * l → v ≤ 2 ^ 23 * l → (u + v) * 1 ≤ 2 ^ 24 * l * 1 * 1
+    enough u v l h k = omega arith
 
 -- a multiple q of a number of u units, where q u is u + v
 module _ (s : Bool) (m : ℕ) (e : ℤ) (f : T (fits binary32 (fin s m e))) (w : Within 22 (fin s m e))

@@ -3,7 +3,7 @@
 use Prim.Native.Nat.{ℕ, _*_, _^_, _≤_, _<_}
 use native.Mathlib.Nat.{le-trans, le-of-eq, mul-right-comm, mul-le-mul-right, le-of-mul-le-mul-right}
 use native.Mathlib.Omega.{arith}
-use mathlib.Core.Path.{_≡_, sym, subst}
+use mathlib.Core.Path.{_≡_, refl, sym, subst}
 use mathlib.Core.Bool.{Bool, true, false, not, _&&_, _||_, cond}
 use lib.Dec.{T, ltb, eqb, eqb→eq}
 use lib.Ieee.{Float, nan, inf, fin, up, down, lt, le, eq, isNan, ofBits}
@@ -14,6 +14,7 @@ use Rattle.number.proofs.Comparing.{not-lt-le, le-self, lt-le}
 use Rattle.number.proofs.Units.Compared.{no-size}
 use Rattle.number.proofs.Signs.{le-of-tests}
 use Rattle.number.proofs.NoNan.{no-nan-lt}
+use Rattle.number.proofs.Transitive.{lt-not-le}
 use Rattle.polynomial_root.proofs.Zeros.{high-zero}
 
 -- ---- tests
@@ -48,6 +49,18 @@ module _ (t : Float) (above : T (lt zero32 t)) where
       go true b f g = zero-in-range
       go false true f g = end-in-range
       go false false f g = and-i (le zero32 x) (le x t) (f tt) (g tt)
+
+-- the clamp leaves what lies in the range as it is
+pub clamp-stands : (x low high : Float) → T (between low high x) → clamp x low high ≡ x
+unfolding clamp
+clamp-stands x low high h =
+    go (lt x low) (lt high x) (λ l. lt-not-le x low l (and-l (le low x) (le x high) h))
+    (λ l. lt-not-le high x l (and-r (le low x) (le x high) h))
+  where
+    go : (a b : Bool) → (T a → ⊥) → (T b → ⊥) → cond a low (cond b high x) ≡ x
+    go true b f g = absurd (f tt)
+    go false true f g = absurd (g tt)
+    go false false f g = refl
 
 -- ---- sizes: what lies in 0..t is no larger than t
 pub tested : (a b : ℕ) → T (ltb a b || (eqb a b && true)) → a ≤ b

@@ -1,43 +1,41 @@
 -- What the two root finders promise of every answer: it is tidy; a quadratic's roots are none or two numbers, the
--- smaller first; a cubic's lie in 0..t, a linear one's in 0..1. And no root in the range is dropped, a repeated one
--- neither. Assumes nothing.
+-- smaller first; a cubic's lie in 0..t, and at t = 1 a linear one's is the original's. And no root in the range is
+-- dropped, a repeated one neither. Assumes nothing.
 use Prim.Native.Nat.{ℕ}
 use native.Mathlib.Omega.{arith}
-use mathlib.Core.Path.{_≡_, refl}
+use mathlib.Core.Path.{_≡_, refl, ap, _∙_}
 use mathlib.Core.Logic.{inl, inr}
 use mathlib.Core.Bool.{Bool, true, false, not, cond, _&&_}
 use mathlib.Core.List.{[], _∷_}
 use lib.Dec.{T, lit≤}
-use lib.Ieee.{Float, binary32, lt, eq, isNan, fits, ofBits}
+use lib.Ieee.{Float, binary32, eq, isNan, fits}
 use lib.Ieee.Fits.{add-fits}
-use Rattle.number.specs.Number.{_⊖_, _⊗_, _⊘_, zero32, one32, between, written}
+use Rattle.number.specs.Number.{_⊗_, zero32, one32, clamp, between, written}
 use Rattle.number.proofs.Answers.{admitted-keeps}
-use Rattle.number.proofs.Within.{Within, within-more}
-use Rattle.polynomial_root.specs.Roots.{none, refused, push, two32, solved, three32, valueAt, bothZero}
-use Rattle.polynomial_root.specs.Roots.{vanishes, opposite, linearRoots, keep, keptRoots, lowerRoots, spanRoots}
+use Rattle.number.proofs.Within.{Within, within-more, within-finite}
+use Rattle.polynomial_root.specs.Roots.{none, refused, orRefused, push, two32, solved, three32, valueAt, bothZero}
+use Rattle.polynomial_root.specs.Roots.{vanishes, opposite, fraction, linearRoots, keep, keptRoots, lowerRoots, spanRoots}
 use Rattle.polynomial_root.specs.Roots.{cubicRoots, quadraticRefusal, cubicRefusal, solvedRoots, quadraticRoot}
-use Rattle.polynomial_root.specs.Roots.{cubicRootsInRange, NoneOrTwo, rangeEnd}
+use Rattle.polynomial_root.specs.Roots.{cubicRootsInRange, NoneOrTwo, WholeRange}
 use Rattle.polynomial_root.specs.declared.answer.Roots.{Roots}
 use Rattle.polynomial_root.specs.declared.cubic.Cubic.{Cubic}
 use Rattle.polynomial_root.specs.declared.quadratic.Solved.{Solved}
 use Rattle.polynomial_root.specs.declared.quadratic.Solved.the-variants.{Neither, Both}
-use Rattle.polynomial_root.proofs.Orders.{test-true, zero-in-range, written-in-range}
-use Rattle.polynomial_root.proofs.Defined.{value-within}
+use Rattle.polynomial_root.proofs.Orders.{test-true, zero-in-range, written-in-range, clamp-in-range}
+use Rattle.polynomial_root.proofs.Orders.{within-range}
+use Rattle.polynomial_root.proofs.Defined.{product-no-nan, one-within}
 use Rattle.polynomial_root.proofs.Places.{Holds, refused-holds, push-holds}
 use Rattle.polynomial_root.proofs.Gathered.{Solves, solved-holds, kept-holds}
 use Rattle.polynomial_root.proofs.Spans.{Allowed, spans-in-range}
 use Rattle.polynomial_root.proofs.Admitted.{allowed-quadratic, allowed-cubic}
-use Rattle.polynomial_root.proofs.Linear.{linear-in-range}
+use Rattle.polynomial_root.proofs.Linear.{fraction-in-range}
+use Rattle.polynomial_root.proofs.Whole.{linear-whole}
 use Rattle.polynomial_root.proofs.Ordered.{InOrder, solved-ordered}
 use Rattle.polynomial_root.proofs.Written.{written-number, written-order}
 
-one-above : T (lt zero32 one32)
-unfolding lt ofBits
-one-above = tt
-
 -- ---- a cubic's roots
 abbrev In : Float → Float → Type 0
-In end r = T (between zero32 end r)
+In t r = T (between zero32 t r)
 
 module _ (p : Cubic) (t epsilon : Float) (h : Allowed p t) where
   constant-holds : Holds (In t) (cond (vanishes (p .c0)) (push none zero32) none)
@@ -49,7 +47,7 @@ module _ (p : Cubic) (t epsilon : Float) (h : Allowed p t) where
           (written-in-range t (h .above) zero32 (zero-in-range t (h .above)))
       go false = refused-holds (In t) 0
 
-  linear-holds : T (fits binary32 (p .c0)) → Holds (In one32) (linearRoots (p .c0) (valueAt p t))
+  linear-holds : T (fits binary32 (p .c0)) → Holds (In t) (linearRoots t (p .c0) (valueAt p t))
   unfolding linearRoots
   linear-holds f = go (opposite a b) (bothZero a b) refl refl
     where
@@ -59,18 +57,26 @@ module _ (p : Cubic) (t epsilon : Float) (h : Allowed p t) where
       b : Float
       b = valueAt p t
 
-      go : (o z : Bool) → opposite a b ≡ o → bothZero a b ≡ z
-          → Holds (In one32) (cond o (cond z (refused 6) (push none (a ⊘ (a ⊖ b)))) none)
-      go true true i j = refused-holds (In one32) 6
-      go true false i j =
-          push-holds (In one32) none (a ⊘ (a ⊖ b)) refl (refused-holds (In one32) 0)
-          (written-in-range one32 one-above (a ⊘ (a ⊖ b))
-          (linear-in-range a b f (add-fits binary32 _ _) (h .w0)
-          (value-within p t (h .w0) (h .w1) (h .w2) (h .w3) (h .small)) i j))
-      go false z i j = refused-holds (In one32) 0
+      root : Float
+      root = clamp (fraction a b ⊗ t) zero32 t
 
-  lower-holds : T (fits binary32 (p .c0))
-      → Holds (In (cond (vanishes (p .c2) && not (vanishes (p .c1))) one32 t)) (lowerRoots p t)
+      -- the fraction is no larger than 1, so its product with t is a number, which the clamp holds to 0..t
+      in-range : opposite a b ≡ true → bothZero a b ≡ false → In t root
+      in-range i j =
+          let x = fraction a b in
+          let l = fraction-in-range a b f (add-fits binary32 _ _) (within-finite 20 a (h .w0)) i j in
+          clamp-in-range t (h .above) (x ⊗ t)
+          (product-no-nan x t (within-finite 0 x (within-range 0 x one32 l one-within)) (within-finite 0 t (h .small)))
+
+      go : (o z : Bool) → opposite a b ≡ o → bothZero a b ≡ z
+          → Holds (In t) (cond o (cond z (refused 6) (push none root)) none)
+      go true true i j = refused-holds (In t) 6
+      go true false i j =
+          push-holds (In t) none root refl (refused-holds (In t) 0)
+          (written-in-range t (h .above) root (in-range i j))
+      go false z i j = refused-holds (In t) 0
+
+  lower-holds : T (fits binary32 (p .c0)) → Holds (In t) (lowerRoots p t)
   unfolding lowerRoots
   lower-holds f = go (vanishes (p .c2)) (vanishes (p .c1))
     where
@@ -78,33 +84,52 @@ module _ (p : Cubic) (t epsilon : Float) (h : Allowed p t) where
       roots = solved (p .c0) (p .c1) (p .c2)
 
       go : (y z : Bool)
-          → Holds (In (cond (y && not z) one32 t))
-          (cond y (cond z (cond (vanishes (p .c0)) (push none zero32) none) (linearRoots (p .c0) (valueAt p t)))
+          → Holds (In t)
+          (cond y (cond z (cond (vanishes (p .c0)) (push none zero32) none) (linearRoots t (p .c0) (valueAt p t)))
           (keptRoots t roots))
       go true true = constant-holds
       go true false = linear-holds f
       go false z = kept-holds (In t) t (λ r i. written-in-range t (h .above) r (test-true i)) roots
 
-  pub cubic-holds : T (fits binary32 (p .c0)) → Holds (In (rangeEnd p t)) (cubicRoots p t epsilon)
+  pub cubic-holds : T (fits binary32 (p .c0)) → Holds (In t) (cubicRoots p t epsilon)
   unfolding cubicRoots
   cubic-holds f = go (vanishes (p .c3))
     where
       slope : Solved
       slope = solved (p .c1) (two32 ⊗ p .c2) (three32 ⊗ p .c3)
 
-      go : (x : Bool)
-          → Holds (In (cond (x && vanishes (p .c2) && not (vanishes (p .c1))) one32 t))
-          (cond x (lowerRoots p t) (spanRoots p t epsilon slope))
+      go : (x : Bool) → Holds (In t) (cond x (lowerRoots p t) (spanRoots p t epsilon slope))
       go true = lower-holds f
       go false = spans-in-range p t epsilon h slope
 
 pub cubic-promises : (p : Cubic) (t epsilon : Float) → T (fits binary32 (p .c0))
-    → Holds (In (rangeEnd p t)) (cubicRootsInRange p t epsilon)
+    → Holds (In t) (cubicRootsInRange p t epsilon)
 unfolding cubicRootsInRange
 cubic-promises p t epsilon f =
     let n = cubicRefusal p t epsilon in
-    admitted-keeps (Holds (In (rangeEnd p t))) n (cubicRoots p t epsilon) (refused n)
-    (λ e. cubic-holds p t epsilon (allowed-cubic p t epsilon e) f) (refused-holds (In (rangeEnd p t)) n)
+    admitted-keeps (Holds (In t)) n (cubicRoots p t epsilon) (refused n)
+    (λ e. cubic-holds p t epsilon (allowed-cubic p t epsilon e) f) (refused-holds (In t) n)
+
+-- ---- a linear polynomial's, at t = 1
+cubic-linear : (p : Cubic) (t epsilon : Float) → T (vanishes (p .c3) && vanishes (p .c2) && not (vanishes (p .c1)))
+    → cubicRoots p t epsilon ≡ linearRoots t (p .c0) (valueAt p t)
+unfolding cubicRoots lowerRoots
+cubic-linear p t epsilon = go (vanishes (p .c3)) (vanishes (p .c2)) (vanishes (p .c1)) _ _ _ _
+  where
+    go : (x y z : Bool) (constant linear square cubic : Roots) → T (x && y && not z)
+        → cond x (cond y (cond z constant linear) square) cubic ≡ linear
+    go true true true k l s c h = absurd h
+    go true true false k l s c h = refl
+    go true false z k l s c h = absurd h
+    go false y z k l s c h = absurd h
+
+pub cubic-whole : (p : Cubic) (t epsilon : Float) → T (fits binary32 (p .c0))
+    → WholeRange p t epsilon (cubicRootsInRange p t epsilon)
+unfolding cubicRootsInRange
+cubic-whole p t epsilon f e l q =
+    ap (λ (n : ℕ). orRefused n (cubicRoots p t epsilon)) e ∙ cubic-linear p t epsilon l
+    ∙ ap (λ (end : Float). linearRoots end (p .c0) (valueAt p t)) q
+    ∙ linear-whole (p .c0) (valueAt p t) f (add-fits binary32 _ _)
 
 -- ---- a quadratic's roots
 abbrev Number : Float → Type 0

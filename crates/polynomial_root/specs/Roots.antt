@@ -107,10 +107,21 @@ vanishes c = lt (size c) (ofBits binary32 0x3400_0000)
 abbrev pub opposite : Float → Float → Bool
 opposite a b = (le a zero32 && le zero32 b) || (le zero32 a && le b zero32)
 
--- from the values at 0 and at t; the root is a fraction of the range
-unfoldable pub linearRoots : Float → Float → Roots
-linearRoots f0 ft =
-    cond (opposite f0 ft) (cond (bothZero f0 ft) (refused 6) (push none (f0 ⊘ (f0 ⊖ ft)))) none
+-- from the values at 0 and at t: no root, refusal 6, or the root r
+abbrev pub crossing : Float → Float → Float → Roots
+crossing f0 ft r = cond (opposite f0 ft) (cond (bothZero f0 ft) (refused 6) (push none r)) none
+
+-- how far along the range the straight line from f0 to ft meets zero, as a fraction of the range
+abbrev pub fraction : Float → Float → Float
+fraction f0 ft = f0 ⊘ (f0 ⊖ ft)
+
+-- that fraction times t, held to 0..t
+unfoldable pub linearRoots : Float → Float → Float → Roots
+linearRoots t f0 ft = crossing f0 ft (clamp (fraction f0 ft ⊗ t) zero32 t)
+
+-- the fraction itself: the original's rule, which is ours at t = 1
+abbrev pub fractionRoots : Float → Float → Roots
+fractionRoots f0 ft = crossing f0 ft (fraction f0 ft)
 
 -- a root is kept where it lies in 0..t
 unfoldable pub keep : Float → Roots → Float → Roots
@@ -124,7 +135,7 @@ keptRoots t (Both e0 e1) = keep t (keep t none e0) e1
 unfoldable pub lowerRoots : Cubic → Float → Roots
 lowerRoots p t =
     cond (vanishes (p .c2))
-    (cond (vanishes (p .c1)) (cond (vanishes (p .c0)) (push none zero32) none) (linearRoots (p .c0) (valueAt p t)))
+    (cond (vanishes (p .c1)) (cond (vanishes (p .c0)) (push none zero32) none) (linearRoots t (p .c0) (valueAt p t)))
     (keptRoots t (solved (p .c0) (p .c1) (p .c2)))
 
 -- ---- degree three
@@ -202,15 +213,17 @@ Each P a = (i : ℕ) → i < a .count → P (getD (a .roots) i nan)
 abbrev pub NoNan : Roots → Type 0
 NoNan a = Each (λ r. T (not (isNan r))) a
 
--- each answered root lies in 0..end, and so is finite
+-- each answered root lies in 0..t, and so is finite
 abbrev pub InRange : Float → Roots → Type 0
-InRange end a = Each (λ r. T (between zero32 end r)) a
+InRange t a = Each (λ r. T (between zero32 t r)) a
 
 -- none or two roots, the smaller first
 pub record NoneOrTwo (a : Roots) : Type 0 where
   pub number : (a .count ≡ 0) ⊎ (a .count ≡ 2)
   pub order : a .count ≡ 2 → T (le (getD (a .roots) 0 nan) (getD (a .roots) 1 nan))
 
--- the end of the range that the roots lie in: a linear root is a fraction of 0..t, and may lie above t
-abbrev pub rangeEnd : Cubic → Float → Float
-rangeEnd p t = cond (vanishes (p .c3) && vanishes (p .c2) && not (vanishes (p .c1))) one32 t
+-- at t = 1 a linear polynomial has the original's answer
+abbrev pub WholeRange : Cubic → Float → Float → Roots → Type 0
+WholeRange p t epsilon a =
+    cubicRefusal p t epsilon ≡ 0 → T (vanishes (p .c3) && vanishes (p .c2) && not (vanishes (p .c1))) → t ≡ one32
+    → a ≡ fractionRoots (p .c0) (valueAt p t)

@@ -9,7 +9,7 @@ mod quadratic;
 mod span;
 
 ghost use mathlib.Core.Path.{_≡_};
-ghost use Rattle.polynomial_root.specs.Roots.{cubicOf, Tidy, NoNan, NoneOrTwo, InRange, rangeEnd};
+ghost use Rattle.polynomial_root.specs.Roots.{cubicOf, Tidy, NoNan, NoneOrTwo, InRange, WholeRange};
 ghost use Rattle.polynomial_root.specs.Roots.{quadraticRoot, cubicRootsInRange};
 use admission::admit_cubic;
 use admission::admit_quadratic;
@@ -45,7 +45,8 @@ pub fn cubic_roots_in_range_zero_to_t(
 ) -> Roots
     ensures answer { λ r. ⌜ r ≡ cubicRootsInRange (cubicOf c0 c1 c2 c3) t epsilon ⌝ }
     ensures tidy { λ r. ⌜ Tidy r ⌝ }
-    ensures range { λ r. ⌜ InRange (rangeEnd (cubicOf c0 c1 c2 c3) t) r ⌝ }
+    ensures range { λ r. ⌜ InRange t r ⌝ }
+    ensures whole { λ r. ⌜ WholeRange (cubicOf c0 c1 c2 c3) t epsilon r ⌝ }
 {
     let p = Cubic { c0, c1, c2, c3 };
     let refusal = admit_cubic(p, t, epsilon);

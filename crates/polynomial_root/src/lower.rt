@@ -11,6 +11,7 @@ use crate::cubic::Cubic;
 use crate::newton::value_at;
 use crate::quadratic::Solved;
 use crate::quadratic::solve;
+use number::order::clamp;
 use number::order::size;
 
 // A coefficient counts as zero where its size is below 2^-23.
@@ -30,15 +31,15 @@ fn constant_roots(c0: f32) -> Roots
     }
 }
 
-// From the values at 0 and at t; the root is a fraction of the range.
-fn linear_roots(f0: f32, ft: f32) -> Roots
-    ensures { λ r. ⌜ r ≡ Def.linearRoots f0 ft ⌝ }
+// From the values at 0 and at t: a fraction of the range, times t, held to 0..t.
+fn linear_roots(t: f32, f0: f32, ft: f32) -> Roots
+    ensures { λ r. ⌜ r ≡ Def.linearRoots t f0 ft ⌝ }
 {
     if ((f0 <= 0.0) & (0.0 <= ft)) | ((0.0 <= f0) & (ft <= 0.0)) {
         if (f0 == 0.0) & (ft == 0.0) {
             refused(6)
         } else {
-            push(refused(0), f0 / (f0 - ft))
+            push(refused(0), clamp(f0 / (f0 - ft) * t, 0.0, t))
         }
     } else {
         refused(0)
@@ -69,7 +70,7 @@ pub(crate) fn lower_roots(p: Cubic, t: f32) -> Roots
         if vanishes(p.c1) {
             constant_roots(p.c0)
         } else {
-            linear_roots(p.c0, value_at(p, t))
+            linear_roots(t, p.c0, value_at(p, t))
         }
     } else {
         kept_roots(t, solve(p.c0, p.c1, p.c2))

@@ -1,13 +1,22 @@
 // Roots of cubics, and of cubics whose leading coefficients are missing.
 use crate::line::cubic;
 
+fn linear() {
+    // a root at t = 1, one that is minus zero in the original
+    cubic(-1.0, 2.0, 0.0, 0.0, 1.0, 0.0);
+    cubic(0.0, 1.0, 0.0, 0.0, 1.0, 0.0);
+    // shorter ranges: a fraction equal to t, below it, above it with a rounded product, 1; a root between t and 1
+    cubic(-0.25, 1.0, 0.0, 0.0, 0.5, 0.0);
+    cubic(-0.125, 1.0, 0.0, 0.0, 0.5, 0.0);
+    cubic(-0.6, 0.9, 0.0, 0.0, 0.7, 0.0);
+    cubic(-1.0, 4.0, 0.0, 0.0, 0.25, 0.0);
+    cubic(-0.75, 1.0, 0.0, 0.0, 0.5, 0.0);
+}
+
 fn lower() {
-    // constants below and at 2^-23; a linear root, one above t, one that is minus zero in the original
+    // constants below and at 2^-23
     cubic(1.1920928e-7, 0.0, 0.0, 0.0, 1.0, 0.0);
     cubic(1.1920929e-7, 0.0, 0.0, 0.0, 1.0, 0.0);
-    cubic(-1.0, 2.0, 0.0, 0.0, 1.0, 0.0);
-    cubic(-1.0, 4.0, 0.0, 0.0, 0.25, 0.0);
-    cubic(0.0, 1.0, 0.0, 0.0, 1.0, 0.0);
     // a double root, and one that lies outside 0..t
     cubic(0.25, -1.0, 1.0, 0.0, 1.0, 0.0);
     cubic(0.25, -1.0, 1.0, 0.0, 0.25, 0.0);
@@ -37,6 +46,7 @@ fn full() {
 }
 
 pub(crate) fn all() {
+    linear();
     lower();
     full();
 }

@@ -20,7 +20,7 @@ impl Source {
             return self.rare_polynomial();
         }
         let t = self.range();
-        let mut c = match self.below(12) {
+        let mut c = match self.below(13) {
             0 | 1 => [(); 4].map(|()| self.signed() * 2.0),
             2 => [(); 4].map(|()| self.wild()),
             3 | 4 => self.from_roots(t),
@@ -30,6 +30,7 @@ impl Source {
             8 => [(); 4].map(|()| self.signed() * BOUND),
             9 => self.faint(),
             10 => self.even(t),
+            11 => self.straight(t),
             _ => self.low_degree(),
         };
         if self.once_in(8) {
@@ -135,6 +136,24 @@ impl Source {
         let c1 = -((c3 * t + c2) * t);
         let c0 = self.pick(&[0.0, -0.0, 1.0e-45, -1.0e-45, 1.0e-38, 1.0e-10, -1.0e-10]);
         [c0, self.near(c1, 2), c2, c3]
+    }
+
+    /// Linear, with a root in or about the range, often at its end.
+    fn straight(&mut self, t: f32) -> Coefficients {
+        let root = match self.below(8) {
+            0 => t,
+            1 => self.near(t, 2),
+            2 => t * t,
+            3 => self.unit(),
+            _ => (self.unit() * 1.5 - 0.25) * t,
+        };
+        let c1 = match self.below(4) {
+            0 => self.pick(&[1.0, -1.0, BOUND, -BOUND, MISSING, -MISSING]),
+            1 => self.sized(-23, 19) * self.pick(&[1.0, -1.0]),
+            _ => self.signed(),
+        };
+        let mut rest = || self.pick(&[0.0, 0.0, -0.0, neighbour(MISSING, -1), -1.0e-8]);
+        [-(c1 * root), c1, rest(), rest()]
     }
 
     /// A quadratic, linear or constant polynomial.

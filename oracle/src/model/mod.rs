@@ -12,7 +12,7 @@ pub type Point = [f32; 3];
 pub type Points = [Point; 4];
 
 pub use distance::Distance;
-pub use roots::{Coefficients, Roots};
+pub use roots::{missing, Coefficients, Linear, Roots};
 pub use walk::{Kind, Limits};
 
 /// The bound on coordinates, displacements, coefficients and lengths, 2^20.
@@ -38,6 +38,8 @@ pub struct Rules {
     pub newton_steps: u32,
     /// The halving stops below this window, 0: only where the window repeats.
     pub least_window: f32,
+    /// What is made of the fraction of the range that a linear root is.
+    pub linear: Linear,
     /// Whether a repeated root of the quadratic case is dropped.
     pub drops_repeated: bool,
     /// How many bits a square root is off, 0.
@@ -53,6 +55,7 @@ impl Rules {
         probes: 4096,
         newton_steps: 20,
         least_window: 0.0,
+        linear: Linear::TimesRange,
         drops_repeated: false,
         root_off: 0,
     };

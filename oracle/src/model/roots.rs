@@ -13,6 +13,17 @@ pub struct Roots {
     pub places: [f32; 3],
 }
 
+/// What is made of the fraction of the range 0..t that a linear root is.
+#[derive(Clone, Copy)]
+pub enum Linear {
+    /// Its product with t, held to 0..t: the rule.
+    TimesRange,
+    /// Nothing.
+    Alone,
+    /// It is held to 0..t, then comes the product.
+    HeldFirst,
+}
+
 impl Roots {
     fn with(mut self, root: f32) -> Roots {
         if root == 0.0 && root.is_sign_negative() {
@@ -25,7 +36,7 @@ impl Roots {
 }
 
 /// 2^-23, below which a coefficient counts as missing.
-fn missing(c: f32) -> bool {
+pub fn missing(c: f32) -> bool {
     c.abs() < 1.0 / 8_388_608.0
 }
 
@@ -96,7 +107,7 @@ impl Rules {
         } else if !missing(c[2]) {
             Ok(self.square(c, t))
         } else if !missing(c[1]) {
-            linear(c, t)
+            self.linear(c, t)
         } else if missing(c[0]) {
             met(Branch::ConstantRoot);
             Ok(Roots::default().with(0.0))
@@ -135,6 +146,35 @@ impl Rules {
                 Roots::default()
             }
         }
+    }
+
+    /// The linear case: with the ends on opposite sides or zero, a fraction of the range, times t, held to 0..t.
+    fn linear(&self, c: Coefficients, t: f32) -> Result<Roots, Refusal> {
+        let (at_zero, at_t) = (c[0], value(c, t));
+        if same_side(at_zero, at_t) {
+            let between_t_and_one = !same_side(at_zero, value(c, 1.0));
+            met(if between_t_and_one { Branch::LinearBeyond } else { Branch::LinearNone });
+            return Ok(Roots::default());
+        }
+        if at_zero == at_t {
+            met(Branch::LinearBothZero);
+            return Err(6);
+        }
+        let fraction = at_zero / (at_zero - at_t);
+        met(if t == 1.0 {
+            Branch::LinearWhole
+        } else if fraction == 1.0 {
+            Branch::LinearEnd
+        } else if fraction > t {
+            Branch::LinearAbove
+        } else {
+            Branch::LinearBelow
+        });
+        Ok(Roots::default().with(match self.linear {
+            Linear::TimesRange => (fraction * t).clamp(0.0, t),
+            Linear::Alone => fraction,
+            Linear::HeldFirst => fraction.clamp(0.0, t) * t,
+        }))
     }
 
     /// The cubic case: spans cut at the derivative's roots, one root a span at most.
@@ -227,19 +267,4 @@ impl Rules {
         met(Branch::NewtonAll);
         Ok(r)
     }
-}
-
-/// The linear case: with the ends on opposite sides or zero, a fraction of the range.
-fn linear(c: Coefficients, t: f32) -> Result<Roots, Refusal> {
-    let (at_zero, at_t) = (c[0], value(c, t));
-    if same_side(at_zero, at_t) {
-        met(Branch::LinearNone);
-        return Ok(Roots::default());
-    }
-    if at_zero == at_t {
-        met(Branch::LinearBothZero);
-        return Err(6);
-    }
-    met(Branch::LinearRoot);
-    Ok(Roots::default().with(at_zero / (at_zero - at_t)))
 }

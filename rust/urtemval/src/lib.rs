@@ -346,8 +346,8 @@ pub fn coplanar_times(x0: &Points, dx: &Points) -> Result<Roots, Refusal> {
 }
 
 /// The roots in 0..t of c\[0\] + c\[1\] x + c\[2\] x² + c\[3\] x³, in the order of the spans between turning points.
-/// Of a linear polynomial it is the fraction of the way from 0 to t (at t = 1, the root). `epsilon` is the size of a
-/// value at which a root is taken as found.
+/// Each lies in 0..t. A linear polynomial's is the fraction of the way from 0 to t at which it crosses zero, times t.
+/// `epsilon` is the size of a value at which a root is taken as found.
 ///
 /// # Errors
 ///
@@ -358,6 +358,9 @@ pub fn coplanar_times(x0: &Points, dx: &Points) -> Result<Roots, Refusal> {
 /// // (x - 0.5) (x² + 1)
 /// let roots = urtemval::cubic_roots([-0.5, 1.0, -0.5, 1.0], 1.0, 0.0)?;
 /// assert_eq!(roots[..], [0.5]);
+/// // x - 0.25, on half the range
+/// let roots = urtemval::cubic_roots([-0.25, 1.0, 0.0, 0.0], 0.5, 0.0)?;
+/// assert_eq!(roots[..], [0.25]);
 /// # Ok::<(), urtemval::Refusal>(())
 /// ```
 #[inline]

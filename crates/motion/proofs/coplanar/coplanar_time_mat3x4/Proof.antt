@@ -1,14 +1,14 @@
 -- `motion::coplanar::coplanar_time_mat3x4` meets its contract, by either way through its test. Assumes nothing.
 use Prim.Native.Nat.{ℕ}
-use mathlib.Core.Path.{_≡_, refl, sym, subst, ap, _∙_}
-use mathlib.Core.Bool.{Bool, true, false, cond, not, _&&_}
+use mathlib.Core.Path.{_≡_, sym, subst, ap, _∙_}
+use mathlib.Core.Bool.{not, _&&_}
 use mathlib.Core.Logic.{_↔_}
 use mathlib.Core.List.{List}
 use borrow.Author.Needs.{needs}
 use lib.Dec.{T}
 use lib.Ieee.{Float}
 use Rattle.number.specs.Number.{zero32, one32, between}
-use Rattle.polynomial_root.specs.Roots.{vanishes, Tidy, InRange, rangeEnd, cubicRootsInRange, refused}
+use Rattle.polynomial_root.specs.Roots.{Tidy, InRange, cubicRootsInRange, refused}
 use Rattle.polynomial_root.specs.declared.answer.Roots.{Roots}
 use Rattle.polynomial_root.specs.declared.cubic.Cubic.{Cubic}
 use Rattle.polynomial_root.proofs.Places.{Holds, refused-holds}
@@ -18,14 +18,6 @@ use Rattle.number.proofs.Answers as by
 use Rattle.motion.proofs.Coefficients.{coplanar-first}
 use Rattle.motion.proofs.coplanar.coplanar_time_mat3x4.Statement.{statement}
 use Rattle.motion.proofs.coplanar.coplanar_time_mat3x4.Tie as tie
-
--- a linear root lies in 0..1, and so does any other where the range is 0..1
-to-one : (p : Cubic) → rangeEnd p one32 ≡ one32
-to-one p = either (vanishes (p .c3) && vanishes (p .c2) && not (vanishes (p .c1)))
-  where
-    either : (b : Bool) → cond b one32 one32 ≡ one32
-    either true = refl
-    either false = refl
 
 -- no root beside a refusal
 none-beside : (n : ℕ) {r : Roots} → r ≡ refused n → Tidy r × InRange one32 r
@@ -59,11 +51,8 @@ returns c =
     ∙ ap (λ (p : Cubic). cubicRootsInRange p one32 zero32) (c .before .motion-cubic .ensures)
     ∙ by.taken (cubicRootsInRange (motionCubic (a .x0) (a .dx)) one32 zero32)
     (refused (motionRefusal (a .x0) (a .dx))) (motionRefusal (a .x0) (a .dx)) (n .admit-motion .result)
-    (n .admit-motion .ensures) (c .before .before .if1 .taken)) (
-      found .ensures .1 .0,
-      subst (λ (end : Float). InRange end (found .result)) (to-one (c .before .motion-cubic .result))
-          (found .ensures .1 .1),
-    )
+    (n .admit-motion .ensures) (c .before .before .if1 .taken))
+    (found .ensures .1 .0, found .ensures .1 .1 .0)
 
 returns-2 : tie.Need-returns-2
 unfolding coplanarTimes

@@ -11,8 +11,15 @@ returns c = rw (c .before .before .if1 .taken, c .before .if2 .taken) (c .refuse
 returns-2 : tie.Need-returns-2
 unfolding linearRoots
 returns-2 c =
-    let z = c .before in
-    rw (z .before .before .if1 .taken, z .before .if2 .left, c .push .ensures, z .refused2 .ensures)
+    let k = c .before in
+    let z = k .before in
+    rw (
+      z .before .before .if1 .taken,
+      z .before .if2 .left,
+      c .push .ensures,
+      z .refused2 .ensures,
+      k .clamp .ensures,
+    )
 
 returns-3 : tie.Need-returns-3
 unfolding linearRoots
@@ -20,4 +27,5 @@ returns-3 c = rw (c .before .if1 .left) (c .refused3 .ensures)
 
 pub linear-roots-spec : {M : Type 1} → statement M
 linear-roots-spec =
-    tie.close (tie.spec (search needs) (search needs) (search needs) (search needs) returns returns-2 returns-3)
+    tie.close
+    (tie.spec (search needs) (search needs) (search needs) (search needs) (search needs) returns returns-2 returns-3)
