@@ -1,5 +1,5 @@
 // The roots in 0..t of a polynomial of degree two at most, and the tests of the degree (polynomial_root.rs,
-// `cubic_roots_in_range_zero_to_t` up to "quadratic function").
+// `cubic_roots_in_range_zero_to_t` up to "quadratic function"; a linear root goes by docs/01-scope.md, "Roots").
 ghost use mathlib.Core.Path.{_≡_};
 ghost use mathlib.Core.Bool.{cond};
 ghost use Rattle.number.specs.Number.{zero32};
