@@ -13,7 +13,7 @@ pub fn calls() -> impl Iterator<Item = Call> {
 }
 
 /// c0, c1, c2, c3, t and epsilon.
-pub const POLYNOMIALS: [&str; 9] = [
+pub const POLYNOMIALS: [&str; 5] = [
     // both values of a span are zero
     "bb213e3f 3d5ff2e6 becf5c2a 3f800000 3f800000 0",
     // a starting guess above t
@@ -23,11 +23,6 @@ pub const POLYNOMIALS: [&str; 9] = [
     // linear, both values zero: by underflow, and by what is left of the higher coefficients
     "0 34000000 0 0 1 0",
     "0 b4000001 8078c677 89c8ca1a 1 3f800000",
-    // linear at t = 0.5: a fraction below t, above it, and 1; a root between t and 1
-    "be000000 3f800000 0 0 3f000000 0",
-    "bec00000 3f800000 0 0 3f000000 0",
-    "bf000000 3f800000 0 0 3f000000 0",
-    "bf400000 3f800000 0 0 3f000000 0",
 ];
 
 /// Twelve coordinates and twelve displacements.
