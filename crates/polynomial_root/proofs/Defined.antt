@@ -9,7 +9,7 @@ use lib.Dec.{T, ltb, eqb, eqb→eq, lit≤}
 use lib.Ieee.{Float, nan, inf, fin, binary32, up, down, round, sum, add, sub, mul, div, neg, eq, isNan, unlike, ofBits}
 use lib.Ieee.Fits.{and-i}
 use lib.Ieee.Scale.{finite}
-use Rattle.number.specs.Number.{_⊕_, _⊖_, _⊗_, _⊘_, zero32, one32}
+use Rattle.number.specs.Number.{_⊕_, _⊖_, _⊗_, _⊘_, zero32}
 use Rattle.number.proofs.Within.{Within, within-more, add-within, mul-within, round-no-nan}
 use Rattle.polynomial_root.specs.Roots.{two32, three32, valueAt, slopeAt}
 use Rattle.polynomial_root.specs.declared.cubic.Cubic.{Cubic}
@@ -58,10 +58,6 @@ unfolding mul
 product-no-nan (fin s m e) (fin t n d) f g = round-no-nan (unlike s t) (m * up e * (n * up d)) (down e * down d)
 
 -- ---- the constants
-pub one-within : Within 0 one32
-unfolding ofBits
-one-within = lit≤ tt
-
 pub two-within : Within 1 two32
 unfolding ofBits
 two-within = lit≤ tt

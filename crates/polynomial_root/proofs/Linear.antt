@@ -1,5 +1,6 @@
 -- The fraction a / (a - b), for a and b on opposite sides of zero and not both zero, lies in 0..1: the computed
--- difference has the sign of a, where a is not zero, and is no smaller than a. Assumes nothing.
+-- difference has the sign of a, where a is not zero, and is no smaller than a. So its product with t lies in 0..t, and
+-- the clamp leaves that as it is. Assumes nothing.
 use Prim.Native.Nat.{ℕ, _+_, _*_, _^_, _≤_, _<_, zero-le}
 use native.Mathlib.Nat.{le-trans, le-of-eq, add-comm, one-mul, zero-mul, mul-pos, mul-le-mul-right}
 use native.Mathlib.Nat.{le-of-mul-le-mul-right, eq-zero-or-pos, eq-or-lt-of-le}
@@ -11,9 +12,9 @@ use lib.IntN.{ℤ, pos}
 use lib.Dec.{T, ltb, eqb, lt→ltb, eqb→eq, lit<, lit≤}
 use lib.Pow.{pow-pos}
 use lib.Ieee.{Float, nan, inf, fin, binary32, up, down, round, add, sub, div, neg, lt, le, eq, unlike, fits, ofBits}
-use lib.Ieee.Fits.{down-pos, and-i, and-l, and-r, eq→eqb}
+use lib.Ieee.Fits.{div-fits, down-pos, and-i, and-l, and-r, eq→eqb}
 use lib.Ieee.Scale.{finite}
-use Rattle.number.specs.Number.{_⊖_, _⊘_, zero32, one32, between}
+use Rattle.number.specs.Number.{_⊖_, _⊗_, _⊘_, zero32, one32, clamp, between}
 use Rattle.number.proofs.Rounding.{rnd, rnd-fix}
 use Rattle.number.proofs.Units.Compared.{L, left, right, no-size, says-le}
 use Rattle.number.proofs.Units.{zero-is, Top, Unit32, shift}
@@ -25,6 +26,7 @@ use Rattle.number.proofs.Plus.{round-plus}
 use Rattle.number.proofs.Signs.{plus-up}
 use Rattle.polynomial_root.specs.Roots.{bothZero, opposite, fraction}
 use Rattle.polynomial_root.proofs.Zeros.{zero-eq, zero-high, low-zero, high-zero}
+use Rattle.polynomial_root.proofs.Orders.{part-stands}
 use Rattle.polynomial_root.proofs.Differences.{zero-of, pos-of, units-of, Sides, Sum, difference}
 
 -- ---- the quotient of a by the difference
@@ -203,3 +205,10 @@ fraction-in-range (fin s m e) (fin t n d) f g h o z = over (fin s m e ⊖ fin t 
       where
         positive : (r : ℕ) → u ≤ r → v ≤ r → 0 < r
         positive r h k = omega (arith, some)
+
+-- ---- the clamp leaves the product as it is
+pub fraction-unheld : (t a b : Float) → T (fits binary32 t) → T (finite t) → T (le zero32 t) → T (fits binary32 a)
+    → T (fits binary32 b) → T (finite a) → opposite a b ≡ true → bothZero a b ≡ false
+    → clamp (fraction a b ⊗ t) zero32 t ≡ fraction a b ⊗ t
+fraction-unheld t a b d k l f g h o z =
+    part-stands (fraction a b) t (div-fits binary32 _ _) d k l (fraction-in-range a b f g h o z)

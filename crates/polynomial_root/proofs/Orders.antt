@@ -1,17 +1,23 @@
--- The order of f32 as the root finders use it: what lies in 0..t, held there by the clamp, and how large it can be.
--- Assumes nothing.
-use Prim.Native.Nat.{ℕ, _*_, _^_, _≤_, _<_}
-use native.Mathlib.Nat.{le-trans, le-of-eq, mul-right-comm, mul-le-mul-right, le-of-mul-le-mul-right}
+-- The order of f32 as the root finders use it: what lies in 0..t, held there by the clamp, and how large it can be; a
+-- part of t as it is computed. Assumes nothing.
+use Prim.Native.Nat.{ℕ, _*_, _^_, _≤_, _<_, zero-le}
+use native.Mathlib.Nat.{le-trans, le-of-eq, lt-of-le-of-lt, mul-comm, mul-right-comm, mul-le-mul-right}
+use native.Mathlib.Nat.{le-of-mul-le-mul-right}
 use native.Mathlib.Omega.{arith}
 use mathlib.Core.Path.{_≡_, refl, sym, subst}
 use mathlib.Core.Bool.{Bool, true, false, not, _&&_, _||_, cond}
-use lib.Dec.{T, ltb, eqb, eqb→eq}
-use lib.Ieee.{Float, nan, inf, fin, up, down, lt, le, eq, isNan, ofBits}
+use lib.Dec.{T, ltb, eqb, eqb→eq, lit≤}
+use lib.Pow.{pow-pos}
+use lib.Ieee.{Float, nan, inf, fin, binary32, up, down, lt, le, eq, isNan, fits, ofBits}
 use lib.Ieee.Fits.{down-pos, and-i, and-l, and-r}
-use Rattle.number.specs.Number.{zero32, clamp, between, written}
-use Rattle.number.proofs.Within.{Within}
+use lib.Ieee.Scale.{finite}
+use Rattle.number.specs.Number.{_⊗_, zero32, one32, clamp, between, written}
+use Rattle.number.proofs.Rounding.{rnd, rnd-mono, rnd-fix}
+use Rattle.number.proofs.Units.{Unit32, of-float, zero-is, one-is}
+use Rattle.number.proofs.Products.{mul-is}
+use Rattle.number.proofs.Within.{Within, within-finite}
 use Rattle.number.proofs.Comparing.{not-lt-le, le-self, lt-le}
-use Rattle.number.proofs.Units.Compared.{no-size}
+use Rattle.number.proofs.Units.Compared.{L, no-size, le-says, says-le}
 use Rattle.number.proofs.Signs.{le-of-tests}
 use Rattle.number.proofs.NoNan.{no-nan-lt}
 use Rattle.number.proofs.Transitive.{lt-not-le}
@@ -51,7 +57,7 @@ module _ (t : Float) (above : T (lt zero32 t)) where
       go false false f g = and-i (le zero32 x) (le x t) (f tt) (g tt)
 
 -- the clamp leaves what lies in the range as it is
-pub clamp-stands : (x low high : Float) → T (between low high x) → clamp x low high ≡ x
+clamp-stands : (x low high : Float) → T (between low high x) → clamp x low high ≡ x
 unfolding clamp
 clamp-stands x low high h =
     go (lt x low) (lt high x) (λ l. lt-not-le x low l (and-l (le low x) (le x high) h))
@@ -98,3 +104,36 @@ within-range a (fin false m e) (fin false n d) h k =
     (tested (m * up e * down d) (n * up d * down e)
     (and-r (le zero32 (fin false m e)) (le (fin false m e) (fin false n d)) h))
     k
+
+-- ---- a part of t, from nothing to the whole of it, computed: it lies in 0..t, and the clamp leaves it
+one-within : Within 0 one32
+unfolding ofBits
+one-within = lit≤ tt
+
+pub part-finite : (x : Float) → T (between zero32 one32 x) → T (finite x)
+part-finite x h = within-finite 0 x (within-range 0 x one32 h one-within)
+
+part-in-range : (x t : Float) → T (fits binary32 x) → T (fits binary32 t) → T (finite t) → T (le zero32 t)
+    → T (between zero32 one32 x) → T (between zero32 t (x ⊗ t))
+part-in-range x t f g k z h = in-units (a .0) (b .0) (a .1) (b .1)
+  where
+    a : (u : ℕ) × Unit32 x u
+    a = of-float x f (part-finite x h) (and-l (le zero32 x) (le x one32) h)
+
+    b : (v : ℕ) × Unit32 t v
+    b = of-float t g k z
+
+    in-units : (u v : ℕ) → Unit32 x u → Unit32 t v → T (between zero32 t (x ⊗ t))
+    in-units u v p q =
+        let l = le-says x one32 u L (p .is) one-is (and-r (le zero32 x) (le x one32) h) in
+        let r =
+        le-trans (rnd-mono (u * v) L (v * L) L (pow-pos 149) (pow-pos 149)
+        (mul-le-mul-right L (le-trans (mul-le-mul-right v l) (le-of-eq (mul-comm L v)))))
+        (le-of-eq (rnd-fix v L (pow-pos 149) (q .rep))) in
+        let i = mul-is x t u v (p .is) (q .is) (lt-of-le-of-lt r (q .under)) in
+        and-i (le zero32 (x ⊗ t)) (le (x ⊗ t) t) (says-le zero32 (x ⊗ t) 0 (rnd (u * v) L) zero-is i zero-le)
+        (says-le (x ⊗ t) t (rnd (u * v) L) v i (q .is) r)
+
+pub part-stands : (x t : Float) → T (fits binary32 x) → T (fits binary32 t) → T (finite t) → T (le zero32 t)
+    → T (between zero32 one32 x) → clamp (x ⊗ t) zero32 t ≡ x ⊗ t
+part-stands x t f g k z h = clamp-stands (x ⊗ t) zero32 t (part-in-range x t f g k z h)

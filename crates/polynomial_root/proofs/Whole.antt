@@ -1,17 +1,18 @@
 -- At t = 1 the linear rule (`linearRoots`) is the original's (`fractionRoots`), for all numbers, NaN and infinities
--- included: the fraction lies in 0..1 or is NaN, a product with 1 leaves it as it is, and so does the clamp. Assumes
--- nothing.
+-- included: the fraction lies in 0..1 or is NaN, the clamp leaves its product with 1 as it is, and that is the fraction.
+-- Assumes nothing.
 use mathlib.Core.Path.{_≡_, refl, ap, _∙_}
 use mathlib.Core.Bool.{Bool, true, false, cond}
 use lib.Dec.{T}
-use lib.Ieee.{Float, nan, inf, fin, binary32, add, sub, mul, div, neg, lt, fits, ofBits}
+use lib.Ieee.{Float, nan, inf, fin, binary32, add, sub, mul, div, neg, lt, le, fits, ofBits}
+use lib.Ieee.Bits.{ofBits-fits}
 use lib.Ieee.Fits.{div-fits}
+use lib.Ieee.Scale.{finite}
 use Rattle.number.specs.Number.{_⊗_, zero32, one32, clamp}
 use Rattle.number.proofs.Unmoved.{times-one}
 use Rattle.polynomial_root.specs.Roots.{none, refused, push, bothZero, opposite, fraction, linearRoots}
 use Rattle.polynomial_root.specs.Roots.{fractionRoots}
-use Rattle.polynomial_root.proofs.Orders.{clamp-stands}
-use Rattle.polynomial_root.proofs.Linear.{fraction-in-range}
+use Rattle.polynomial_root.proofs.Linear.{fraction-unheld}
 
 -- the fraction of an infinity is NaN
 no-fraction : (s : Bool) (b : Float) → fraction (inf s) b ≡ nan
@@ -24,6 +25,14 @@ no-fraction false (inf false) = refl
 no-fraction s (fin t n d) = refl
 
 -- ---- times 1, held to 0..1
+one-finite : T (finite one32)
+unfolding ofBits
+one-finite = tt
+
+one-up : T (le zero32 one32)
+unfolding le ofBits
+one-up = tt
+
 abbrev held : Float → Float
 held x = clamp (x ⊗ one32) zero32 one32
 
@@ -36,9 +45,8 @@ held-fraction : (a b : Float) → T (fits binary32 a) → T (fits binary32 b) �
 held-fraction nan b f g o z = unfold div in held-nan
 held-fraction (inf s) b f g o z = rw (no-fraction s b) held-nan
 held-fraction (fin s m e) b f g o z =
-    let x = fraction (fin s m e) b in
-    ap (λ (y : Float). clamp y zero32 one32) (times-one x (div-fits binary32 _ _))
-    ∙ clamp-stands x zero32 one32 (fraction-in-range (fin s m e) b f g tt o z)
+    fraction-unheld one32 (fin s m e) b (ofBits-fits binary32 0x3f80_0000) one-finite one-up f g tt o z
+    ∙ times-one (fraction (fin s m e) b) (div-fits binary32 _ _)
 
 -- ---- the theorem
 pub linear-whole : (a b : Float) → T (fits binary32 a) → T (fits binary32 b) → linearRoots one32 a b ≡ fractionRoots a b
