@@ -6,16 +6,16 @@ use native.Mathlib.Nat.{le-of-mul-le-mul-right}
 use native.Mathlib.Omega.{arith}
 use mathlib.Core.Path.{_≡_, refl, sym, subst}
 use mathlib.Core.Bool.{Bool, true, false, not, _&&_, _||_, cond}
-use lib.Dec.{T, ltb, eqb, eqb→eq, lit≤}
+use lib.Dec.{T, ltb, eqb, eqb→eq}
 use lib.Pow.{pow-pos}
 use lib.Ieee.{Float, nan, inf, fin, binary32, up, down, lt, le, eq, isNan, fits, ofBits}
 use lib.Ieee.Fits.{down-pos, and-i, and-l, and-r}
 use lib.Ieee.Scale.{finite}
 use Rattle.number.specs.Number.{_⊗_, zero32, one32, clamp, between, written}
 use Rattle.number.proofs.Rounding.{rnd, rnd-mono, rnd-fix}
-use Rattle.number.proofs.Units.{Unit32, of-float, zero-is, one-is}
+use Rattle.number.proofs.Units.{Unit32, of-float, of-range, zero-is, one-is}
 use Rattle.number.proofs.Products.{mul-is}
-use Rattle.number.proofs.Within.{Within, within-finite}
+use Rattle.number.proofs.Within.{Within}
 use Rattle.number.proofs.Comparing.{not-lt-le, le-self, lt-le}
 use Rattle.number.proofs.Units.Compared.{L, no-size, le-says, says-le}
 use Rattle.number.proofs.Signs.{le-of-tests}
@@ -106,26 +106,25 @@ within-range a (fin false m e) (fin false n d) h k =
     k
 
 -- ---- a part of t, from nothing to the whole of it, computed: it lies in 0..t, and the clamp leaves it
-one-within : Within 0 one32
-unfolding ofBits
-one-within = lit≤ tt
-
-pub part-finite : (x : Float) → T (between zero32 one32 x) → T (finite x)
-part-finite x h = within-finite 0 x (within-range 0 x one32 h one-within)
-
 part-in-range : (x t : Float) → T (fits binary32 x) → T (fits binary32 t) → T (finite t) → T (le zero32 t)
     → T (between zero32 one32 x) → T (between zero32 t (x ⊗ t))
 part-in-range x t f g k z h = in-units (a .0) (b .0) (a .1) (b .1)
   where
+    low : T (le zero32 x)
+    low = and-l (le zero32 x) (le x one32) h
+
+    high : T (le x one32)
+    high = and-r (le zero32 x) (le x one32) h
+
     a : (u : ℕ) × Unit32 x u
-    a = of-float x f (part-finite x h) (and-l (le zero32 x) (le x one32) h)
+    a = of-range x one32 L f low high one-is
 
     b : (v : ℕ) × Unit32 t v
     b = of-float t g k z
 
     in-units : (u v : ℕ) → Unit32 x u → Unit32 t v → T (between zero32 t (x ⊗ t))
     in-units u v p q =
-        let l = le-says x one32 u L (p .is) one-is (and-r (le zero32 x) (le x one32) h) in
+        let l = le-says x one32 u L (p .is) one-is high in
         let r =
         le-trans (rnd-mono (u * v) L (v * L) L (pow-pos 149) (pow-pos 149)
         (mul-le-mul-right L (le-trans (mul-le-mul-right v l) (le-of-eq (mul-comm L v)))))

@@ -12,6 +12,7 @@ use lib.Ieee.{Float, binary32, eq, isNan, fits}
 use lib.Ieee.Fits.{add-fits}
 use Rattle.number.specs.Number.{_⊗_, zero32, clamp, between, written}
 use Rattle.number.proofs.Answers.{admitted-keeps}
+use Rattle.number.proofs.Ranges.{zero-to-one}
 use Rattle.number.proofs.Within.{Within, within-more, within-finite}
 use Rattle.polynomial_root.specs.Roots.{none, refused, orRefused, push, two32, solved, three32, valueAt, bothZero}
 use Rattle.polynomial_root.specs.Roots.{vanishes, opposite, fraction, linearRoots, keep, keptRoots, lowerRoots, spanRoots}
@@ -22,7 +23,6 @@ use Rattle.polynomial_root.specs.declared.cubic.Cubic.{Cubic}
 use Rattle.polynomial_root.specs.declared.quadratic.Solved.{Solved}
 use Rattle.polynomial_root.specs.declared.quadratic.Solved.the-variants.{Neither, Both}
 use Rattle.polynomial_root.proofs.Orders.{test-true, zero-in-range, written-in-range, clamp-in-range}
-use Rattle.polynomial_root.proofs.Orders.{part-finite}
 use Rattle.polynomial_root.proofs.Defined.{product-no-nan}
 use Rattle.polynomial_root.proofs.Places.{Holds, refused-holds, push-holds}
 use Rattle.polynomial_root.proofs.Gathered.{Solves, solved-holds, kept-holds}
@@ -66,7 +66,7 @@ module _ (p : Cubic) (t epsilon : Float) (h : Allowed p t) where
           let x = fraction a b in
           let l = fraction-in-range a b f (add-fits binary32 _ _) (within-finite 20 a (h .w0)) i j in
           clamp-in-range t (h .above) (x ⊗ t)
-          (product-no-nan x t (part-finite x l) (within-finite 0 t (h .small)))
+          (product-no-nan x t (within-finite 0 x (zero-to-one x l .2)) (within-finite 0 t (h .small)))
 
       go : (o z : Bool) → opposite a b ≡ o → bothZero a b ≡ z
           → Holds (In t) (cond o (cond z (refused 6) (push none root)) none)
