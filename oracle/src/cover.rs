@@ -48,7 +48,7 @@ named! {
         QuadraticSwapped: "quadratic: the roots change places",
         ConstantRoot: "roots, constant: root 0",
         ConstantNone: "roots, constant: none",
-        LinearWhole: "roots, linear: a root, t is 1",
+        LinearAtOne: "roots, linear: a root, t is 1",
         LinearBelow: "roots, linear: a root, t below 1, the fraction at most t",
         LinearAbove: "roots, linear: a root, t below 1, the fraction above t and below 1",
         LinearEnd: "roots, linear: a root, t below 1, the fraction is 1: the root is t",

@@ -1,23 +1,22 @@
 -- A time that is not below zero, and a step that is not: the computed sum is not below the time, and not below zero.
 -- Where the sum overflows it is the infinity. Assumes nothing.
 use mathlib.Core.Path.{_≡_, refl, sym, ap, _∙_, subst}
-use mathlib.Core.Bool.{Bool, true, false, cond}
-use Prim.Native.Nat.{ℕ, _+_, _-_, _*_, _^_, _≤_, _<_, zero-le}
-use native.Mathlib.Nat.{le-trans, le-of-eq, mul-one, mul-le-mul-right, le-add-right, not-le-of-lt, add-mul, mul-pos}
+use mathlib.Core.Bool.{Bool, true, false}
+use Prim.Native.Nat.{ℕ, _+_, _-_, _*_, _≤_, _<_, zero-le}
+use native.Mathlib.Nat.{le-trans, le-of-eq, mul-one, mul-le-mul-right, le-add-right, add-mul, mul-pos}
 use native.Mathlib.Omega.{arith}
 use native.Mathlib.Decide.{decLt}
-use lib.Dec.{T, ltb, le→leb, ltb→lt}
+use lib.Dec.{T, le→leb}
 use lib.Pow.{pow-pos}
-use lib.Ieee.{Float, nan, inf, fin, binary32, up, down, round, units, odd, sum, add, le, fits, ofBits}
-use lib.Ieee.Fits.{round-is, down-pos}
+use lib.Ieee.{Float, nan, inf, fin, binary32, up, down, round, sum, add, le, fits, ofBits}
+use lib.Ieee.Fits.{down-pos}
 use lib.Ieee.Scale.{finite}
-use lib.Ieee.Order.{drop, kept}
 use Rattle.number.specs.Number.{zero32}
 use Rattle.number.proofs.Numbers.{le-of-not-lt}
 use Rattle.number.proofs.Rounding.{rnd, Rep, rnd-mono, rnd-fix}
 use Rattle.number.proofs.Units.{zero-is, L, Top, Is, Unit32, le-is, of-float, plus, left, right, size-is}
 use Rattle.number.proofs.Units.{no-size}
-use Rattle.number.proofs.Sums.{add-is, add-opens, sum-ff, sum-ft, none-le, round-units}
+use Rattle.number.proofs.Sums.{add-is, add-opens, sum-ff, sum-ft, none-le, round-units, round-over}
 
 -- what is rounded is not below a number that needs no rounding and that it was not below
 pub grows : (u v : ℕ) → Rep u → u ≤ rnd (u + v) 1
@@ -38,19 +37,6 @@ later t s u v p q h =
     )
 
 -- ---- with overflow, and with an infinite step
-cond-of : {X : Type 0} (b : Bool) (x y : X) → (T b → ⊥) → cond b x y ≡ y
-cond-of true x y f = absurd (f tt)
-cond-of false x y f = refl
-
-units-over : (s : Bool) (q k : ℕ) → Top ≤ q * 2 ^ k → units binary32 s q k ≡ inf s
-unfolding units
-units-over s q k h =
-    cond-of (ltb (q * 2 ^ k) Top) (odd 25 s q k 149) (inf s) (λ t. not-le-of-lt (ltb→lt (q * 2 ^ k) Top t) h)
-
--- what is too large rounds to the infinity
-pub round-over : (s : Bool) (a c : ℕ) → Top ≤ rnd (a * L) c → round binary32 s a c ≡ inf s
-round-over s a c h = round-is binary32 s a c ∙ units-over s (kept 24 (a * L) c) (drop 24 (a * L) c) h
-
 le-inf : (t : Float) → T (finite t) → T (le t (inf false))
 unfolding le
 le-inf (fin s m e) f = tt

@@ -18,8 +18,7 @@ use Rattle.number.proofs.Numbers.{le-of-not-lt}
 use Rattle.number.proofs.Rounding.{rnd}
 use Rattle.number.proofs.Units.Compared.{L, left, right, no-size}
 use Rattle.number.proofs.Units.{Top, Unit32, shift, fin-false, none-of}
-use Rattle.number.proofs.Sums.Rounded.{round-at, round-units}
-use Rattle.number.proofs.Later.{round-over}
+use Rattle.number.proofs.Sums.Rounded.{round-at, round-over, round-units}
 use Rattle.number.proofs.Zeros.{sum-first, sum-second}
 use Rattle.number.proofs.Sizes.{fits-plus}
 

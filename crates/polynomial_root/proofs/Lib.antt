@@ -8,7 +8,7 @@ pub mod Defined
 pub mod Spans
 pub mod Differences
 pub mod Linear
-pub mod Whole
+pub mod AtOne
 pub mod Multiples
 pub mod Ordered
 pub mod Written

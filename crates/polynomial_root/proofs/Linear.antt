@@ -30,7 +30,7 @@ use Rattle.polynomial_root.proofs.Orders.{part-stands}
 use Rattle.polynomial_root.proofs.Differences.{zero-of, pos-of, units-of, Sides, Sum, difference}
 
 -- ---- the quotient of a by the difference
-pub within-one : (x : Float) → Within 0 x → T (le x one32)
+within-one : (x : Float) → Within 0 x → T (le x one32)
 unfolding le lt eq ofBits
 within-one (fin true m e) h =
     or-l (ltb 0 (m * up e * 1 + 1 * down e)) (eqb (m * up e * 1) (1 * down e) && eqb (m * up e * 1) 0)

@@ -17,7 +17,7 @@ use Rattle.number.proofs.Within.{Within, within-more, within-finite}
 use Rattle.polynomial_root.specs.Roots.{none, refused, orRefused, push, two32, solved, three32, valueAt, bothZero}
 use Rattle.polynomial_root.specs.Roots.{vanishes, opposite, fraction, linearRoots, keep, keptRoots, lowerRoots, spanRoots}
 use Rattle.polynomial_root.specs.Roots.{cubicRoots, quadraticRefusal, cubicRefusal, solvedRoots, quadraticRoot}
-use Rattle.polynomial_root.specs.Roots.{cubicRootsInRange, NoneOrTwo, WholeRange}
+use Rattle.polynomial_root.specs.Roots.{cubicRootsInRange, NoneOrTwo, OriginalAtOne}
 use Rattle.polynomial_root.specs.declared.answer.Roots.{Roots}
 use Rattle.polynomial_root.specs.declared.cubic.Cubic.{Cubic}
 use Rattle.polynomial_root.specs.declared.quadratic.Solved.{Solved}
@@ -29,7 +29,7 @@ use Rattle.polynomial_root.proofs.Gathered.{Solves, solved-holds, kept-
 use Rattle.polynomial_root.proofs.Spans.{Allowed, spans-in-range}
 use Rattle.polynomial_root.proofs.Admitted.{allowed-quadratic, allowed-cubic}
 use Rattle.polynomial_root.proofs.Linear.{fraction-in-range}
-use Rattle.polynomial_root.proofs.Whole.{linear-whole}
+use Rattle.polynomial_root.proofs.AtOne.{linear-at-one}
 use Rattle.polynomial_root.proofs.Ordered.{InOrder, solved-ordered}
 use Rattle.polynomial_root.proofs.Written.{written-number, written-order}
 
@@ -123,13 +123,13 @@ cubic-linear p t epsilon = go (vanishes (p .c3)) (vanishes (p .c2)) (vanishes (p
     go true false z k l s c h = absurd h
     go false y z k l s c h = absurd h
 
-pub cubic-whole : (p : Cubic) (t epsilon : Float) → T (fits binary32 (p .c0))
-    → WholeRange p t epsilon (cubicRootsInRange p t epsilon)
+pub cubic-at-one : (p : Cubic) (t epsilon : Float) → T (fits binary32 (p .c0))
+    → OriginalAtOne p t epsilon (cubicRootsInRange p t epsilon)
 unfolding cubicRootsInRange
-cubic-whole p t epsilon f e l q =
+cubic-at-one p t epsilon f e l q =
     ap (λ (n : ℕ). orRefused n (cubicRoots p t epsilon)) e ∙ cubic-linear p t epsilon l
     ∙ ap (λ (end : Float). linearRoots end (p .c0) (valueAt p t)) q
-    ∙ linear-whole (p .c0) (valueAt p t) f (add-fits binary32 _ _)
+    ∙ linear-at-one (p .c0) (valueAt p t) f (add-fits binary32 _ _)
 
 -- ---- a quadratic's roots
 abbrev Number : Float → Type 0

@@ -223,7 +223,7 @@ pub record NoneOrTwo (a : Roots) : Type 0 where
   pub order : a .count ≡ 2 → T (le (getD (a .roots) 0 nan) (getD (a .roots) 1 nan))
 
 -- at t = 1 a linear polynomial has the original's answer
-abbrev pub WholeRange : Cubic → Float → Float → Roots → Type 0
-WholeRange p t epsilon a =
+abbrev pub OriginalAtOne : Cubic → Float → Float → Roots → Type 0
+OriginalAtOne p t epsilon a =
     cubicRefusal p t epsilon ≡ 0 → T (vanishes (p .c3) && vanishes (p .c2) && not (vanishes (p .c1))) → t ≡ one32
     → a ≡ fractionRoots (p .c0) (valueAt p t)

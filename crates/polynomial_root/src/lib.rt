@@ -9,8 +9,8 @@ mod quadratic;
 mod span;
 
 ghost use mathlib.Core.Path.{_≡_};
-ghost use Rattle.polynomial_root.specs.Roots.{cubicOf, Tidy, NoNan, NoneOrTwo, InRange, WholeRange};
-ghost use Rattle.polynomial_root.specs.Roots.{quadraticRoot, cubicRootsInRange};
+ghost use Rattle.polynomial_root.specs.Roots.{cubicOf, Tidy, NoNan, NoneOrTwo, InRange};
+ghost use Rattle.polynomial_root.specs.Roots.{OriginalAtOne, quadraticRoot, cubicRootsInRange};
 use admission::admit_cubic;
 use admission::admit_quadratic;
 use answer::Roots;
@@ -46,7 +46,7 @@ pub fn cubic_roots_in_range_zero_to_t(
     ensures answer { λ r. ⌜ r ≡ cubicRootsInRange (cubicOf c0 c1 c2 c3) t epsilon ⌝ }
     ensures tidy { λ r. ⌜ Tidy r ⌝ }
     ensures range { λ r. ⌜ InRange t r ⌝ }
-    ensures whole { λ r. ⌜ WholeRange (cubicOf c0 c1 c2 c3) t epsilon r ⌝ }
+    ensures original { λ r. ⌜ OriginalAtOne (cubicOf c0 c1 c2 c3) t epsilon r ⌝ }
 {
     let p = Cubic { c0, c1, c2, c3 };
     let refusal = admit_cubic(p, t, epsilon);

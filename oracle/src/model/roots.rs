@@ -162,7 +162,7 @@ impl Rules {
         }
         let fraction = at_zero / (at_zero - at_t);
         met(if t == 1.0 {
-            Branch::LinearWhole
+            Branch::LinearAtOne
         } else if fraction == 1.0 {
             Branch::LinearEnd
         } else if fraction > t {

@@ -1,14 +1,15 @@
--- `round` in units of 2 ^ -149, of either sign, and what sums and differences hand to it. Assumes nothing.
+-- `round` in units of 2 ^ -149, of either sign, overflow included, and what sums and differences hand to it. Assumes
+-- nothing.
 use mathlib.Core.Path.{_≡_, refl, sym, ap, _∙_, subst}
 use mathlib.Core.Logic.{inl, inr}
 use mathlib.Core.Bool.{Bool, true, false, not, cond, true≢false, false≢true}
-use Prim.Native.Nat.{ℕ, _+_, _-_, _*_, _≤_, _<_}
+use Prim.Native.Nat.{ℕ, _+_, _-_, _*_, _^_, _≤_, _<_}
 use native.Mathlib.Nat.{not-le-of-lt, eq-or-lt-of-le, zero-mul, mul-one}
 use native.Mathlib.Omega.{arith}
 use lib.IntN.{ℤ}
 use lib.Dec.{T, ltb, ltb→lt, lt→ltb, lit<}
 use lib.Pow.{pow-pos}
-use lib.Ieee.{Float, fin, binary32, up, down, round, sum, add, sub}
+use lib.Ieee.{Float, inf, fin, binary32, up, down, round, units, odd, sum, add, sub}
 use lib.Ieee.Fits.{up-pos, round-is}
 use lib.Ieee.Exact.{HasValue, units-val}
 use lib.Ieee.Order.{drop, kept}
@@ -29,6 +30,19 @@ pub to-is-minus : (x : Float) (w : ℕ) → w ≡ 0 → HasValue x true w L → 
 to-is-minus (fin false m e) w z h = absurd (false≢true (h .0))
 to-is-minus (fin true m e) w z h =
     (none-of m (up e) L (up-pos e) (pow-pos 149) (h .1 ∙ ap (λ (x : ℕ). x * down e) z ∙ zero-mul (down e)), z)
+
+cond-of : {X : Type 0} (b : Bool) (x y : X) → (T b → ⊥) → cond b x y ≡ y
+cond-of true x y f = absurd (f tt)
+cond-of false x y f = refl
+
+units-over : (s : Bool) (q k : ℕ) → Top ≤ q * 2 ^ k → units binary32 s q k ≡ inf s
+unfolding units
+units-over s q k h =
+    cond-of (ltb (q * 2 ^ k) Top) (odd 25 s q k 149) (inf s) (λ t. not-le-of-lt (ltb→lt (q * 2 ^ k) Top t) h)
+
+-- what is too large rounds to the infinity
+pub round-over : (s : Bool) (a c : ℕ) → Top ≤ rnd (a * L) c → round binary32 s a c ≡ inf s
+round-over s a c h = round-is binary32 s a c ∙ units-over s (kept 24 (a * L) c) (drop 24 (a * L) c) h
 
 -- num / den is w units
 pub round-units : (num den w : ℕ) → 0 < den → num * L ≡ w * den → rnd (num * L) den ≡ rnd w 1

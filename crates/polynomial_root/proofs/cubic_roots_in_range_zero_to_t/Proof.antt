@@ -7,11 +7,11 @@ use lib.Ieee.{Float, binary32, fits}
 use borrow.Author.Needs.{needs}
 use Rattle.number.specs.Number.{zero32, between}
 use Rattle.number.proofs.Answers as by
-use Rattle.polynomial_root.specs.Roots.{refused, cubicOf, cubicRootsInRange, Tidy, InRange, WholeRange}
+use Rattle.polynomial_root.specs.Roots.{refused, cubicOf, cubicRootsInRange, Tidy, InRange, OriginalAtOne}
 use Rattle.polynomial_root.specs.declared.answer.Roots.{Roots}
 use Rattle.polynomial_root.proofs.Orders.{test-true}
 use Rattle.polynomial_root.proofs.Places.{Holds}
-use Rattle.polynomial_root.proofs.Promised.{cubic-promises, cubic-whole}
+use Rattle.polynomial_root.proofs.Promised.{cubic-promises, cubic-at-one}
 use Rattle.polynomial_root.proofs.cubic_roots_in_range_zero_to_t.Statement.{statement}
 use Rattle.polynomial_root.proofs.cubic_roots_in_range_zero_to_t.Tie as tie
 
@@ -19,12 +19,12 @@ use Rattle.polynomial_root.proofs.cubic_roots_in_range_zero_to_t.Tie as
 promised : (c0 c1 c2 c3 t epsilon : Float) → fits binary32 c0 ≡ true → {r : Roots}
     → r ≡ cubicRootsInRange (cubicOf c0 c1 c2 c3) t epsilon
     → (r ≡ cubicRootsInRange (cubicOf c0 c1 c2 c3) t epsilon)
-    × (Tidy r × (InRange t r × WholeRange (cubicOf c0 c1 c2 c3) t epsilon r))
+    × (Tidy r × (InRange t r × OriginalAtOne (cubicOf c0 c1 c2 c3) t epsilon r))
 promised c0 c1 c2 c3 t epsilon f e =
     let p = cubicOf c0 c1 c2 c3 in
     let h = subst (Holds (λ r. T (between zero32 t r))) (sym e) (cubic-promises p t epsilon (test-true f)) in
-    let w = subst (WholeRange p t epsilon) (sym e) (cubic-whole p t epsilon (test-true f)) in
-    (e, (h .tidy, (h .each, w)))
+    let o = subst (OriginalAtOne p t epsilon) (sym e) (cubic-at-one p t epsilon (test-true f)) in
+    (e, (h .tidy, (h .each, o)))
 
 returns : tie.Need-returns
 unfolding cubicRootsInRange

@@ -49,9 +49,9 @@ held-fraction (fin s m e) b f g o z =
     ∙ times-one (fraction (fin s m e) b) (div-fits binary32 _ _)
 
 -- ---- the theorem
-pub linear-whole : (a b : Float) → T (fits binary32 a) → T (fits binary32 b) → linearRoots one32 a b ≡ fractionRoots a b
+pub linear-at-one : (a b : Float) → T (fits binary32 a) → T (fits binary32 b) → linearRoots one32 a b ≡ fractionRoots a b
 unfolding linearRoots
-linear-whole a b f g = go (opposite a b) (bothZero a b) refl refl
+linear-at-one a b f g = go (opposite a b) (bothZero a b) refl refl
   where
     go : (o z : Bool) → opposite a b ≡ o → bothZero a b ≡ z
         → cond o (cond z (refused 6) (push none (held (fraction a b)))) none
