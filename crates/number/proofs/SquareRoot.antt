@@ -2,9 +2,11 @@
 pub mod Whole
 pub mod Digits
 pub mod Nearest
+pub mod Sheet
 pub mod Bits
 pub mod Argument
 pub mod Found
+pub mod Taken
 pub mod Theorem
 pub mod Bounds
 pub mod Answer

@@ -1,3 +1,4 @@
 -- What the contracts of `number` cite. Definitions only.
 pub mod Number
+pub mod ByHand
 pub mod Inner

@@ -2,6 +2,7 @@
 // square root (docs/01-scope.md, "Number helpers", "The numbers allowed", "Square root and norm").
 // The crate's proofs/ hold the laws of f32 that every other crate cites.
 pub mod answer;
+pub mod by_hand;
 pub mod order;
 pub mod range;
 pub mod root;

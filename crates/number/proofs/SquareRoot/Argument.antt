@@ -75,12 +75,12 @@ module _ (x : Float) (f : T (fits binary32 x)) (a : T (lt zero32 x)) where
   inf-not = refl
 
   -- the field of ones is the infinity's
-  pub at-top : 255 ≤ b / 8388608 → zero32 ≡ rootOf x
+  pub at-top : 255 ≤ b / 8388608 → isFinite x ≡ false
   unfolding ofBits
   at-top h =
       let l = above-bits x f a in
       let e : b ≡ infBits = omega arith in
-      not-finite (inf false) inf-not ∙ ap rootOf (sym (ap (ofBits binary32) e) ∙ own)
+      sym (ap isFinite (sym (ap (ofBits binary32) e) ∙ own)) ∙ inf-not
 
   pub finite-bits : b < infBits → T (isFinite x)
   unfolding isFinite

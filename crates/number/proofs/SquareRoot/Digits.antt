@@ -1,24 +1,22 @@
--- From the whole root of n with its rest to the nearest whole number: it is the root, or the next where the rest is
--- above the root. No tie can be, since the square of an odd number is odd. Assumes nothing.
-use mathlib.Core.Path.{_≡_, ap, _∙_, subst}
+-- From the root of 25 digits to the nearest of 24: the last digit rounds, up where it is 1. No tie can be, since the
+-- square of an odd number is odd. Assumes nothing.
+use mathlib.Core.Path.{_≡_, ap, _∙_}
+use mathlib.Core.Logic.{inl, inr}
 use Prim.Native.Nat.{ℕ, _+_, _-_, _*_, _/_, _%_, _^_, _≤_, _<_}
-use native.Mathlib.Nat.{lt-of-lt-of-le, lt-of-le-of-lt, mul-le-mul, mul-le-mul-left, mul-lt-mul-of-pos-right}
+use native.Mathlib.Nat.{lt-of-lt-of-le, lt-of-le-of-lt, lt-of-not-le, eq-zero-or-pos, mul-le-mul, mul-le-mul-left}
+use native.Mathlib.Nat.{mul-lt-mul-of-pos-right}
 use native.Mathlib.Omega.{arith}
-use lib.Pow.{pow-mono, shl-lt, shl-exact}
-use Rattle.number.specs.Inner.{RootBits, wholeOf}
-use Rattle.number.proofs.SquareRoot.Whole.{root-lt, square-even, square-odd, square-next}
+use lib.Pow.{pow-add, pow-mono, shl-lt}
+use Rattle.number.specs.declared.by_hand.Sheet.{Sheet}
+use Rattle.number.specs.Inner.{OnSheet, RootBits, wholeOf}
+use Rattle.number.proofs.SquareRoot.Whole.{square-even, square-odd, square-next}
 
--- the number whose root is taken, as the code makes it
-pub code-whole : (p k : ℕ) → p < 2 ^ 24 → k < 300
-    → p * 2 ^ (23 + (k - k / 2 * 2 % 4294967296)) % 18446744073709551616 ≡ wholeOf p k
-code-whole p k h l =
-    ap (λ (j : ℕ). p * 2 ^ (23 + j) % 18446744073709551616) (odd k l) ∙ shl-exact 24 (23 + k % 2) 64 h (omega arith)
-  where
-    odd : (k : ℕ) → k < 300 → k - k / 2 * 2 % 4294967296 ≡ k % 2
-    odd k l = omega arith
+-- the number whose root is worked out has at most 25 digits
+pub number-short : (p k : ℕ) → p < 2 ^ 24 → p * 2 ^ (k % 2) < 2 ^ 25
+number-short p k h = lt-of-lt-of-le (shl-lt 24 (k % 2) h) (pow-mono {i = 24 + k % 2} {j = 25} (omega arith))
 
 -- a number below the double root is below it squared
-under-half : (r n : ℕ) → 1 ≤ r → r * r ≤ n → (2 * r - 1) * (2 * r - 1) < 4 * n
+under-half : (r n : ℕ) → 1 ≤ r → 4 * (r * r) ≤ n → (2 * r - 1) * (2 * r - 1) < n
 under-half r n h l =
     let a : 2 * r - 1 ≤ 2 * r = omega arith in
     let s : 2 * r - 1 < 2 * r = omega arith in
@@ -29,9 +27,6 @@ under-half r n h l =
     omega arith
 
 module _ (p k : ℕ) (low : 2 ^ 23 ≤ p) (high : p < 2 ^ 24) where
-  pub whole-lt : wholeOf p k < 2 ^ 48
-  whole-lt = lt-of-lt-of-le (shl-lt 24 (23 + k % 2) high) (pow-mono {i = 24 + (23 + k % 2)} {j = 48} (omega arith))
-
   pub whole-ge : 2 ^ 46 ≤ wholeOf p k
   whole-ge = mul-le-mul low (pow-mono {i = 23} {j = 23 + k % 2} (omega arith))
 
@@ -41,58 +36,87 @@ module _ (p k : ℕ) (low : 2 ^ 23 ≤ p) (high : p < 2 ^ 24) where
       let h : p ≤ 16777215 = omega arith in
       mul-le-mul h (pow-mono {i = 23 + k % 2} {j = 24} (omega arith))
 
-  module _ (root rest : ℕ) (e : root * root + rest ≡ wholeOf p k) (l : rest ≤ 2 * root) where
-    pub root-high : root < 2 ^ 24
-    root-high = root-lt root (wholeOf p k) (omega arith) whole-lt
-
-    root-low : 2 ^ 23 ≤ root
-    root-low = below (λ (g : root < 2 ^ 23).
+  module _ (root left : ℕ) (e : root * root + left ≡ 4 * wholeOf p k) (l : left < 2 * root + 1) where
+    root-low : 2 ^ 24 ≤ root
+    root-low = below (λ (g : root < 2 ^ 24).
         let s = square-next root in
-        let u : root + 1 ≤ 2 ^ 23 = omega arith in
-        let t : (root + 1) * (root + 1) ≤ 2 ^ 23 * 2 ^ 23 = mul-le-mul u u in
+        let u : root + 1 ≤ 2 ^ 24 = omega arith in
+        let t : (root + 1) * (root + 1) ≤ 2 ^ 24 * 2 ^ 24 = mul-le-mul u u in
         omega (arith, whole-ge))
       where
-        below : (root < 2 ^ 23 → ⊥) → 2 ^ 23 ≤ root
+        below : (root < 2 ^ 24 → ⊥) → 2 ^ 24 ≤ root
         below f = omega arith
 
-    -- the rest says that the exact root is above the half, so the whole root is not the largest of 24 digits
-    root-up : root < rest → root + 1 < 2 ^ 24
-    root-up g = other (λ (z : root ≡ 16777215).
-        let s : root * root ≡ 16777215 * 16777215 = ap (λ (x : ℕ). x * x) z in omega (arith, whole-le))
-      where
-        other : (root ≡ 16777215 → ⊥) → root + 1 < 2 ^ 24
-        other f = omega (arith, root-high)
+    -- the root is not the largest of 25 digits, which would round up to one digit more
+    pub root-high : root < 33554431
+    root-high = lt-of-not-le (λ (g : 33554431 ≤ root).
+        let t : 33554431 * 33554431 ≤ root * root = mul-le-mul g g in omega (arith, whole-le))
 
-    pub up : root < rest → (b : ℕ) → b ≡ (k / 2 + 51) * 2 ^ 23 + (root + 1) → RootBits p k b
-    up g b m =
-        let s = square-odd root in
-        let z = root-low in
+    -- the last digit is 0: the exact root lies at or above the half of the root, and below the middle to the next
+    down : root % 2 ≡ 0 → (b : ℕ) → b ≡ (k / 2 + 51) * 2 ^ 23 + (root + 1) / 2 → RootBits p k b
+    down z b m =
+        let h = root-low in
+        let q = (root + 1) / 2 in
+        let r : root ≡ 2 * q = omega arith in
+        let s = square-even q in
+        let t = square-next root in
+        let f : root * root ≡ 2 * q * (2 * q) = ap (λ (y : ℕ). y * y) r in
+        let g : (root + 1) * (root + 1) ≡ (2 * q + 1) * (2 * q + 1) = ap (λ (y : ℕ). (y + 1) * (y + 1)) r in
         record {
-          digits = root + 1;
+          digits = q;
           made = m;
           low = omega arith;
-          high = root-up g;
-          under = subst (λ (x : ℕ). x * x < 4 * wholeOf p k) (same root) (omega arith);
-          over = more (square-odd (root + 1)) (square-next root);
-        }
-      where
-        same : (r : ℕ) → 2 * r + 1 ≡ 2 * (r + 1) - 1
-        same r = omega arith
-
-        more : (2 * (root + 1) + 1) * (2 * (root + 1) + 1) ≡ 4 * ((root + 1) * (root + 1)) + 4 * (root + 1) + 1
-            → (root + 1) * (root + 1) ≡ root * root + 2 * root + 1
-            → 4 * wholeOf p k < (2 * (root + 1) + 1) * (2 * (root + 1) + 1)
-        more x y = omega arith
-
-    pub down : rest ≤ root → (b : ℕ) → b ≡ (k / 2 + 51) * 2 ^ 23 + root → RootBits p k b
-    down g b m =
-        let s = square-odd root in
-        let z = root-low in
-        record {
-          digits = root;
-          made = m;
-          low = root-low;
-          high = root-high;
-          under = under-half root (wholeOf p k) (omega arith) (omega arith);
+          high = omega (arith, root-high);
+          under = under-half q (4 * wholeOf p k) (omega arith) (omega arith);
           over = omega arith;
         }
+
+    -- it is 1: the exact root lies above the middle, since the square is odd, and below the next
+    up : 0 < root % 2 → (b : ℕ) → b ≡ (k / 2 + 51) * 2 ^ 23 + (root + 1) / 2 → RootBits p k b
+    up z b m =
+        let h = root-low in
+        let q = (root + 1) / 2 in
+        let r : root ≡ 2 * (q - 1) + 1 = omega arith in
+        let r' : root ≡ 2 * q - 1 = omega arith in
+        let s = square-odd (q - 1) in
+        let f : root * root ≡ (2 * (q - 1) + 1) * (2 * (q - 1) + 1) = ap (λ (y : ℕ). y * y) r in
+        let g : root * root ≡ (2 * q - 1) * (2 * q - 1) = ap (λ (y : ℕ). y * y) r' in
+        let t = square-next root in
+        let n : (root + 1) * (root + 1) ≡ 2 * q * (2 * q) = ap (λ (y : ℕ). y * y) (omega arith) in
+        let o = square-odd q in
+        let v = square-even q in
+        record {
+          digits = q;
+          made = m;
+          low = omega arith;
+          high = omega (arith, root-high);
+          under = omega arith;
+          over = omega arith;
+        }
+
+    pub rounded : (b : ℕ) → b ≡ (k / 2 + 51) * 2 ^ 23 + (root + 1) / 2 → RootBits p k b
+    rounded b m = elim (eq-zero-or-pos (root % 2)) [ inl z ↦ down z b m | inr z ↦ up z b m ]
+
+-- ---- from the sheet after 25 digits
+module _ (p k : ℕ) (low : 2 ^ 23 ≤ p) (high : p < 2 ^ 24) (s : Sheet) (o : OnSheet (p * 2 ^ (k % 2) * 2 ^ 25) 1 s) where
+  abbrev root : ℕ
+  root = o .digits * 1
+
+  whole-is : p * 2 ^ (k % 2) * 2 ^ 25 ≡ 4 * wholeOf p k
+  whole-is =
+      let e : wholeOf p k ≡ p * 2 ^ (k % 2) * 2 ^ 23 =
+      ap (λ (y : ℕ). p * y) (pow-add 2 23 (k % 2)) ∙ order p (2 ^ (k % 2)) in
+      omega arith
+    where
+      order : (p y : ℕ) → p * (2 ^ 23 * y) ≡ p * y * 2 ^ 23
+      order p y = omega arith
+
+  square : root * root + s .left ≡ 4 * wholeOf p k
+  square = let r = o .remains in omega (arith, whole-is)
+
+  pub sheet-short : s .twice < 2 ^ 26
+  sheet-short = let d = o .double in omega (arith, root-high p k low high root (s .left) square (o .small))
+
+  pub sheet-rounded : (b : ℕ) → b ≡ (k / 2 + 51) * 2 ^ 23 + (s .twice + 2) / 4 → RootBits p k b
+  sheet-rounded b m =
+      let d = o .double in rounded p k low high root (s .left) square (o .small) b (omega arith)

@@ -15,33 +15,28 @@ use Rattle.number.proofs.Units.{L, shift, fin-false}
 use Rattle.number.proofs.Patterns.{weight}
 use Rattle.number.proofs.Neighbours.{bits-lt}
 use Rattle.number.proofs.SquareRoot.Whole.{square-next}
-use Rattle.number.proofs.SquareRoot.Digits.{up, down}
+use Rattle.number.proofs.SquareRoot.Digits.{rounded}
 use Rattle.number.proofs.SquareRoot.Bits.{root-is}
 use Rattle.number.proofs.SquareRoot.Argument.{some-bits, scale-normal, lift, raised, scale-subnormal}
 
--- ---- every number has a whole root and a rest
+-- ---- every number has a whole root, and less is left than makes the next one
 abbrev Whole : ℕ → Type 0
-Whole n = (root : ℕ) × (rest : ℕ) × (root * root + rest ≡ n) × (rest ≤ 2 * root)
+Whole n = (root : ℕ) × (left : ℕ) × (root * root + left ≡ n) × (left < 2 * root + 1)
 
 whole : (n : ℕ) → Whole n
-whole zero = (0, 0, refl, zero-le)
+whole zero = (0, 0, refl, omega arith)
 whole (suc n) = next (whole n)
   where
     next : Whole n → Whole (suc n)
     next (r, q, e, l) = elim (eq-or-lt-of-le l) [
-      | inl f ↦ (r + 1, 0, (let s = square-next r in omega arith), zero-le)
+      | inl f ↦ (r + 1, 0, (let s = square-next r in omega arith), omega arith)
       | inr f ↦ (r, q + 1, omega arith, omega arith)
     ]
 
 bits-exist : (p k : ℕ) → 2 ^ 23 ≤ p → p < 2 ^ 24 → (b : ℕ) × RootBits p k b
-bits-exist p k low high = pick (whole (wholeOf p k))
-  where
-    pick : Whole (wholeOf p k) → (b : ℕ) × RootBits p k b
-    pick (r, q, e, l) = go (decLe q r)
-      where
-        go : Dec (q ≤ r) → (b : ℕ) × RootBits p k b
-        go (yes h) = ((k / 2 + 51) * 2 ^ 23 + r, down p k low high r q e l h _ refl)
-        go (no h) = ((k / 2 + 51) * 2 ^ 23 + (r + 1), up p k low high r q e l (lt-of-not-le h) _ refl)
+bits-exist p k low high =
+    let (r, q, e, l) = whole (4 * wholeOf p k) in
+    ((k / 2 + 51) * 2 ^ 23 + (r + 1) / 2, rounded p k low high r q e l _ refl)
 
 -- ---- the digits of the root of x
 pub record Found (x : Float) : Type 0 where

@@ -98,7 +98,7 @@ at-least-down x b c h t = elim (eq-or-lt-of-le h) [
 ]
 
 -- ---- the search
-search-finds : (p : ℕ → Bool) (b : ℕ) → ((c : ℕ) → c ≤ b → T (p c)) → ((c : ℕ) → b < c → T (not (p c)))
+pub search-finds : (p : ℕ → Bool) (b : ℕ) → ((c : ℕ) → c ≤ b → T (p c)) → ((c : ℕ) → b < c → T (not (p c)))
     → (k a : ℕ) → a ≤ b → b < a + 2 ^ k → last p k a ≡ b
 unfolding last
 search-finds p b yes· no· zero a h l = omega arith
