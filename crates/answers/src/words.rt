@@ -1,6 +1,8 @@
 // Words of four bytes, little-endian, in a lent run of bytes, and numbers by their bits. A word that lies outside the
 // run is read as 0, and is not written.
 use number::answer::Answered;
+use number::pattern::bits_of;
+use number::pattern::float_of;
 
 // How many bytes a block of calls has, and its answers at most. No place of a field is beyond.
 pub(crate) const BLOCK: usize = 65536;
@@ -36,25 +38,9 @@ pub(crate) fn put(s: &mut [u8], at: usize, w: u32) {
     }
 }
 
-// The number with these bits. The logic has one NaN, so every NaN's bits are that one.
-fn number_of(bits: u32) -> f32 {
-    if bits % 0x8000_0000 <= 0x7f80_0000 {
-        f32::from_bits(bits)
-    } else {
-        0.0 / 0.0
-    }
-}
-
-fn bits_of(x: f32) -> u32 {
-    if x != x {
-        return 0x7fc0_0000;
-    }
-    f32::to_bits(x)
-}
-
 // The number at byte `at`.
 pub(crate) fn number(s: &[u8], at: usize) -> f32 {
-    number_of(word(s, at))
+    float_of(word(s, at))
 }
 
 pub(crate) fn put_number(s: &mut [u8], at: usize, x: f32) {

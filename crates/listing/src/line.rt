@@ -1,5 +1,4 @@
 // The line of a pair in the listing (docs/01-scope.md, "The listing").
-ghost use mathlib.Core.Path.{_≡_};
 ghost use Prim.Native.Nat.{_<_, _≤_, _+_};
 ghost use lib.ListN.{length};
 ghost use lib.Ieee.{binary32, toBits};
@@ -7,20 +6,12 @@ ghost use Rattle.text.specs.Text.{Put, hex};
 ghost use Rattle.listing.specs.Listing as Def;
 use ccd3::Answer;
 use ccd3::SafeTime;
+use number::pattern::bits_of;
 use text::put_bytes;
 use text::put_decimal;
 use text::put_hex;
 
-// The bits of a time. No time is NaN; the bits of one would be these.
-fn bits_of(t: f32) -> u32
-    ensures { λ r. ⌜ r ≡ toBits binary32 t ⌝ }
-{
-    if t != t {
-        return 0x7fc0_0000;
-    }
-    f32::to_bits(t)
-}
-
+// The bits of a time.
 fn put_bits(out: &mut [u8], at: u32, t: f32) -> usize
     ensures { λ r. ⌜ Put (now (out .entry)) at (hex (toBits binary32 t)) (now (out .exit)) r × (r ≤ at + 8) ⌝ }
 {

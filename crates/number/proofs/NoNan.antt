@@ -1,19 +1,19 @@
--- Where a value is no NaN: by a program's own tests, by a bit pattern, where it was rounded, and a quotient.
+-- Where a value is no NaN: by a program's own tests, where it was rounded, and a quotient; and which patterns are a NaN's.
 -- Assumes nothing.
-use mathlib.Core.Path.{_≡_, sym, _∙_, subst, ap}
-use mathlib.Core.Bool.{Bool, true, false, not, _&&_, true≢false, cond}
-use Prim.Native.Nat.{ℕ, _%_, _≤_, zero, suc, _*_, _^_, _<_}
+use mathlib.Core.Path.{_≡_, refl, sym, _∙_, subst, ap}
+use mathlib.Core.Bool.{Bool, true, false, not, true≢false, cond}
+use Prim.Native.Nat.{ℕ, _%_, zero, suc, _*_, _^_, _<_}
 use native.Mathlib.Omega.{arith}
 use lib.Dec.{T, ltb, eqb, ltb→lt, eqb→eq}
-use lib.Ieee.{Float, nan, inf, fin, binary32, binary64, ne, lt, le, fits, isNan, ofBits, round, units, odd, up, down}
+use lib.Ieee.{Float, nan, inf, fin, binary32, ne, lt, le, isNan, ofBits, round, units, odd, up, down}
 use lib.Ieee.{div, unlike}
-use lib.Ieee.Bits.{ofBits-fits, nanBits-is}
+use borrow.Author.Tests.{lt-ltb}
+use lib.Ieee.Bits.{nanBits-is, nanBits-above}
 use lib.Ieee.Compare.{nan-differs}
-use lib.Ieee.Fits.{and-i, fits-widens, round-is}
+use lib.Ieee.Fits.{round-is}
 use lib.Ieee.Order.{drop, kept}
 use lib.Ieee.Scale.{finite}
-use Rattle.number.specs.Number.{zero32, infBits}
-use Rattle.number.proofs.Patterns.{no-nan-bits}
+use Rattle.number.specs.Number.{zero32}
 use Rattle.number.proofs.Units.{L}
 use Rattle.number.proofs.Numbers.{zero-size}
 
@@ -38,17 +38,6 @@ no-nan-le (inf s) (inf t) h = (tt, tt)
 no-nan-le (inf s) (fin t n d) h = (tt, tt)
 no-nan-le (fin s m e) (inf t) h = (tt, tt)
 no-nan-le (fin s m e) (fin t n d) h = (tt, tt)
-
--- a pattern that is no NaN's
-no-nan-of : (b : ℕ) → b % 2147483648 ≤ infBits → T (not (isNan (ofBits binary32 b)))
-no-nan-of b h = subst (λ (t : Bool). T (not t)) (nanBits-is binary32 b) (no-nan-bits b h)
-
--- and an f32 of such a pattern can be cast to an f64
-pub widens : (b : ℕ) → b % 2147483648 ≤ infBits
-    → T (fits binary64 (ofBits binary32 b) && not (isNan (ofBits binary32 b)))
-widens b h =
-    let x = ofBits binary32 b in
-    and-i (fits binary64 x) (not (isNan x)) (fits-widens x (ofBits-fits binary32 b)) (no-nan-of b h)
 
 -- ---- what is rounded
 odd-no-nan : (d : ℕ) (s : Bool) (q k l : ℕ) → T (not (isNan (odd d s q k l)))
@@ -85,3 +74,16 @@ div-no-nan (fin s m e) (fin false n d) f g h = go (eqb n 0) (eqb→eq n 0)
         absurd (clash (0 * down d) (n * up d * 1) (ltb→lt (0 * down d) (n * up d * 1) h)
         (ap (λ (x : ℕ). x * up d * 1) (z tt) ∙ zero-size (up d) 1))
     go false z = round-no-nan (unlike s false) (m * up e * down d) (n * up d * down e)
+
+-- ---- where it is
+nan-is : (x : Float) → isNan x ≡ true → x ≡ nan
+unfolding isNan
+nan-is nan h = refl
+nan-is (inf s) h = absurd (true≢false (sym h))
+nan-is (fin s m e) h = absurd (true≢false (sym h))
+
+-- a pattern past the infinity's, the sign left out
+pub nan-of : (b : ℕ) → 2139095040 < b % 2147483648 → ofBits binary32 b ≡ nan
+nan-of b h =
+    nan-is (ofBits binary32 b)
+    (sym (nanBits-is binary32 b) ∙ nanBits-above binary32 b ∙ lt-ltb 2139095040 (b % 2147483648) h)

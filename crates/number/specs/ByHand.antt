@@ -1,6 +1,6 @@
 -- The square root by hand: what stands on the sheet after some of its digits (docs/01-scope.md, "The root by hand").
 -- Definitions only.
-use Prim.Native.Nat.{ℕ, _+_, _-_, _*_, _/_, _%_, _^_}
+use Prim.Native.Nat.{ℕ, _-_, _*_, _/_, _%_, _^_}
 use mathlib.Core.Bool.{cond, _&&_}
 use lib.Dec.{leb}
 use lib.Ieee.{Float, lt}

@@ -97,7 +97,8 @@ pub(crate) fn worked(n: u32, turns: u32) -> Sheet
 
 // The sheet of x after some digits; the digit after the 24th rounds, and there are no more.
 pub fn sheet_after(x: f32, turns: u32) -> Sheet
-    ensures { λ r. ⌜ r ≡ Def.sheetAfter x turns ⌝ }
+    ensures sheet { λ r. ⌜ r ≡ Def.sheetAfter x turns ⌝ }
+    ensures room { λ r. ⌜ (r .twice < 2 ^ 26) × (r .left < 2 ^ 27) ⌝ }
 {
     let n = even(argument_of(x));
     if turns < 25 {

@@ -1,9 +1,9 @@
 // Words of four bytes, little-endian, and numbers by their bits. Where the file ends, zeros follow.
 ghost use mathlib.Core.Path.{_≡_};
 ghost use Prim.Native.Nat.{_<_};
-ghost use lib.Ieee.{binary32, ofBits};
 ghost use lib.ListN.{getD};
 ghost use Rattle.scene.specs.Scene as Def;
+use number::pattern::float_of;
 
 fn wide(b: u8) -> u32
     ensures { λ r. ⌜ (r ≡ b) × (r < 256) ⌝ }
@@ -26,23 +26,12 @@ pub(crate) fn word(s: &[u8], at: usize) -> u32
     byte(s, at) + 256 * byte(s, at + 1) + 65536 * byte(s, at + 2) + 16777216 * byte(s, at + 3)
 }
 
-// The number with these bits. Every NaN's bits are the one NaN.
-fn number_of(bits: u32) -> f32
-    ensures { λ r. ⌜ r ≡ ofBits binary32 bits ⌝ }
-{
-    if bits % 0x8000_0000 <= 0x7f80_0000 {
-        f32::from_bits(bits)
-    } else {
-        0.0 / 0.0
-    }
-}
-
 // The number at byte `at`.
 pub(crate) fn number(s: &[u8], at: usize) -> f32
     requires { ⌜ at < 0x100_0000_0000 ⌝ }
     ensures { λ r. ⌜ r ≡ Def.number (now (s .entry)) at ⌝ }
 {
-    number_of(word(s, at))
+    float_of(word(s, at))
 }
 
 // Three numbers from byte `at` on.

@@ -6,6 +6,8 @@ ghost use Prim.Native.Nat.{_+_, _*_, _≤_, _<_};
 ghost use lib.ListN.{length};
 ghost use Rattle.io.specs.Counts.{Counts};
 use number::answer::Answered;
+use number::pattern::bits_of;
+use number::pattern::float_of;
 use number::root;
 
 struct Reply {
@@ -13,25 +15,13 @@ struct Reply {
     value: u32,
 }
 
-// The f32 of a pattern. A NaN has no pattern that can be made of bits here, so 0 / 0 stands for all of them.
-fn float(b: u32) -> f32 {
-    if 0x7f80_0000 < (b << 1) >> 1 {
-        0.0 / 0.0
-    } else {
-        f32::from_bits(b)
-    }
-}
-
 fn answer(b: u32) -> Reply {
-    let rooted = root::square_root(float(b));
+    let rooted = root::square_root(float_of(b));
     match rooted {
         Answered::Value(r) => {
-            if r != r {
-                return Reply { kind: 2, value: 0 };
-            }
             Reply {
                 kind: 0,
-                value: f32::to_bits(r),
+                value: bits_of(r),
             }
         }
         Answered::Refused(n) => Reply { kind: 1, value: n },

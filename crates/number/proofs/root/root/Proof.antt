@@ -1,13 +1,11 @@
 -- `number::root::root` meets its contract: by whether the argument has digits. Assumes nothing.
 use mathlib.Core.Path.{_≡_, sym, ap, _∙_, subst}
 use mathlib.Core.Logic.{inl, inr}
-use Prim.Native.Nat.{ℕ, _+_, _<_}
 use native.Mathlib.Omega.{arith}
 use borrow.Author.Needs.{needs}
 use lib.Dec.{T}
 use lib.Ieee.{binary32, fits}
 use Rattle.number.specs.declared.by_hand.Argument.{Argument}
-use Rattle.number.specs.ByHand.{argumentOf}
 use Rattle.number.proofs.Patterns.{no-nan-bits}
 use Rattle.number.proofs.SquareRoot.Bits.{bits-lt, root-is}
 use Rattle.number.proofs.SquareRoot.Taken.{Taken, taken}
