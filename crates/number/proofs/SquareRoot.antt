@@ -7,6 +7,7 @@ pub mod Bits
 pub mod Argument
 pub mod Found
 pub mod Taken
+pub mod Worked
 pub mod Theorem
 pub mod Bounds
 pub mod Answer

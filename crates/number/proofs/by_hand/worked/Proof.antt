@@ -3,10 +3,11 @@
 use mathlib.Core.Path.{_≡_, refl, sym, ap, _∙_, subst}
 use Prim.Native.Nat.{ℕ, _+_, _-_, _*_, _/_, _^_, _≤_, _<_}
 use native.Mathlib.Omega.{arith}
-use lib.Pow.{pow-add, pow-mono}
+use lib.Pow.{pow-mono}
 use Rattle.number.specs.declared.by_hand.Sheet.{Sheet}
 use Rattle.number.specs.Inner.{OnSheet}
 use Rattle.number.proofs.SquareRoot.Sheet.{sheet-blank, twice-short, left-short}
+use Rattle.number.proofs.SquareRoot.Worked.{halved}
 use Rattle.number.proofs.by_hand.worked.Statement.{statement}
 use Rattle.number.proofs.by_hand.worked.Tie as tie
 
@@ -28,13 +29,6 @@ loop-holds c = record {
   at = refl;
   on = sheet-blank (c .args .n) (2 ^ 25) (c .pre .0);
 }
-
--- half a place is the next one
-halved : (done : ℕ) → done < 25 → 2 ^ (25 - done) ≡ 2 * 2 ^ (25 - (done + 1))
-halved done h = ap (λ (j : ℕ). 2 ^ j) (back done h) ∙ pow-add 2 1 (25 - (done + 1))
-  where
-    back : (done : ℕ) → done < 25 → 25 - done ≡ 1 + (25 - (done + 1))
-    back done h = omega arith
 
 module _ (n turns : ℕ) (s : Sheet) (place done : ℕ) (h : Stands n turns s place done) (t : turns ≤ 25)
     (l : done < turns) where
