@@ -4,6 +4,7 @@
    root_oracle patterns            writes the patterns, four bytes each, lowest first
    root_oracle judge PATTERNS ANSWERS
                                    compares; an answer is five bytes: 0 and the root's pattern, or 1 and the refusal
+   root_oracle range FIRST LAST    compares the roots of these patterns, LAST left out, that root_range writes
    Ends with status 1 where an answer differs, is missing or is one too many, or where there are too few patterns. */
 #include <math.h>
 #include <stdint.h>
@@ -121,6 +122,26 @@ static int judge(FILE *patterns, FILE *answers) {
     return differences > 0 || count < LEAST_COUNT;
 }
 
+static int judge_range(uint32_t first, uint32_t last) {
+    static uint8_t bytes[4 * 16384];
+    uint32_t next = first;
+    long differences = 0;
+    for (size_t got; (got = fread(bytes, 1, sizeof bytes, stdin)) > 0;) {
+        for (size_t i = 0; i + 4 <= got && next < last; i += 4, next++) {
+            uint32_t root = pattern_of(sqrtf(float_of(next)));
+            if (word(bytes + i) != root && differences++ < 10)
+                printf("square root of %08x: %08x, not %08x\n", next, word(bytes + i), root);
+        }
+        if (next == last) break;
+    }
+    if (next < last || getchar() != EOF) {
+        printf("square root: fewer answers than patterns, or more\n");
+        return 1;
+    }
+    printf("square root: %08x to %08x, %u patterns, %ld differences\n", first, last - 1, last - first, differences);
+    return differences > 0;
+}
+
 int main(int argc, char **argv) {
     if (argc == 2 && !strcmp(argv[1], "patterns")) {
         put_edges();
@@ -139,6 +160,8 @@ int main(int argc, char **argv) {
         }
         return judge(patterns, answers);
     }
-    fprintf(stderr, "usage: root_oracle patterns | root_oracle judge PATTERNS ANSWERS\n");
+    if (argc == 4 && !strcmp(argv[1], "range"))
+        return judge_range((uint32_t)strtoul(argv[2], NULL, 0), (uint32_t)strtoul(argv[3], NULL, 0));
+    fprintf(stderr, "usage: root_oracle patterns | judge PATTERNS ANSWERS | range FIRST LAST\n");
     return 2;
 }

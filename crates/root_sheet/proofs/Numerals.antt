@@ -1,7 +1,7 @@
 -- A numeral by its whole part and its fraction, and a number of binary places taken apart into them. Assumes nothing.
 use mathlib.Core.Path.{_≡_, sym, ap, _∙_, subst}
 use mathlib.Core.Bool.{Bool, true, false, cond}
-use mathlib.Core.List.{List, [], _++_, append-nil}
+use mathlib.Core.List.{[], _++_, append-nil}
 use Prim.Native.Nat.{ℕ, _+_, _-_, _*_, _/_, _%_, _^_, _≤_, _<_}
 use native.Mathlib.Nat.{lt-of-le-of-lt, div-le-self, div-add-mod', mod-lt, mul-assoc, add-mul, mul-lt-mul-of-pos-right}
 use native.Mathlib.Omega.{arith}

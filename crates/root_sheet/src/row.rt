@@ -1,5 +1,5 @@
 // The line of a digit (docs/01-scope.md, "The root by hand").
-ghost use Prim.Native.Nat.{_+_, _*_, _^_, _≤_, _<_};
+ghost use Prim.Native.Nat.{_+_, _^_, _≤_, _<_};
 ghost use Rattle.text.specs.Text.{Put};
 ghost use Rattle.root_sheet.specs.RootSheet as Def;
 use number::by_hand::Sheet;

@@ -1,5 +1,4 @@
 -- `root_sheet::put_worked` meets its contract: by whether there are digits. Assumes nothing.
-use mathlib.Core.Path.{_≡_}
 use borrow.Author.Needs.{needs}
 use borrow.Author.Tests.{eq-eqb, ne-eqb}
 use Rattle.text.proofs.Puts.{and-then, nothing}

@@ -1,7 +1,6 @@
 -- `root_sheet::numeral::put_numeral` meets its contract: by whether there is a fraction. Assumes nothing.
 use borrow.Author.Needs.{needs}
 use Rattle.text.proofs.Puts.{and-then, as-text}
-use native.Mathlib.Omega.{arith}
 use Rattle.root_sheet.proofs.Numerals.{numeral-whole, numeral-part}
 use Rattle.root_sheet.proofs.numeral.put_numeral.Statement.{statement}
 use Rattle.root_sheet.proofs.numeral.put_numeral.Tie as tie

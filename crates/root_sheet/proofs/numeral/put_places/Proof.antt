@@ -6,7 +6,6 @@ use mathlib.Core.Bool.{Bool, cond}
 use mathlib.Core.List.{List, [], _++_, append-nil, append-assoc}
 use borrow.Author.Needs.{needs}
 use borrow.Author.Tests.{eq-eqb, ne-eqb}
-use lib.Dec.{eqb}
 use Rattle.text.specs.Text.{Put, decimal}
 use Rattle.text.proofs.Puts.{and-then, as-text, keeps-length, nothing}
 use Rattle.root_sheet.specs.RootSheet.{places}
