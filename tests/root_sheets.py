@@ -1,4 +1,4 @@
-"""The sheets of square roots, written down again from docs/01-scope.md, "The root by hand", over whole numbers of any size.
+"""The sheets of square roots, written down again from docs/01-scope.md, "The root by hand", over whole numbers.
 
 root_sheets.py patterns     writes bit patterns, eight hexadecimal digits to a line
 root_sheets.py <PATTERNS    writes what the program `root_by_hand` has to write for such lines
@@ -83,12 +83,14 @@ def patterns():
     for root in [chance.randrange(1, 4096) for _ in range(400)]:
         digits = root * root
         power = chance.randrange(-60, 60)
-        near.append((127 + 2 * power + digits.bit_length() - 1 << 23) + ((digits << 24 >> digits.bit_length()) & 0x7FFFFF))
+        first = digits.bit_length()
+        near.append((126 + 2 * power + first << 23) + (digits << 24 >> first & 0x7FFFFF))
     subnormal = [chance.randrange(1 << 23) for _ in range(2000)]
     ordinary = [chance.randrange(0x7F800000) for _ in range(10000)]
     times = [chance.randrange(0x3D000000, 0x40000000) for _ in range(5000)]
     around = [bits + step for bits in near for step in (-1, 0, 1)]
-    return [0x7FC00001, *edges, *around, *subnormal, *ordinary, *times, *(chance.randrange(1 << 32) for _ in range(500))]
+    any_at_all = [chance.randrange(1 << 32) for _ in range(500)]
+    return [0x7FC00001, *edges, *around, *subnormal, *ordinary, *times, *any_at_all]
 
 
 if __name__ == "__main__":

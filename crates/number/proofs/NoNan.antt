@@ -1,5 +1,5 @@
--- Where a value is no NaN: by a program's own tests, where it was rounded, and a quotient; and which patterns are a NaN's.
--- Assumes nothing.
+-- Where a value is no NaN: by a program's own tests, where it was rounded, and a quotient; and which patterns are a
+-- NaN's. Assumes nothing.
 use mathlib.Core.Path.{_≡_, refl, sym, _∙_, subst, ap}
 use mathlib.Core.Bool.{Bool, true, false, not, true≢false, cond}
 use Prim.Native.Nat.{ℕ, _%_, zero, suc, _*_, _^_, _<_}

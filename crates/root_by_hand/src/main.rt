@@ -1,55 +1,14 @@
-// The square root by hand (docs/01-scope.md, "The root by hand"): reads bit patterns from standard input, words of eight
-// hexadecimal digits, and writes the sheet of each to standard output as soon as its word ends. A word that is no
+// The square root by hand (docs/01-scope.md, "The root by hand"): reads bit patterns from standard input, words of
+// eight hexadecimal digits, and writes the sheet of each to standard output as soon as its word ends. A word that is no
 // pattern is told by its number. What fails is said on standard error.
+mod word;
+
+use crate::word::Reading;
+use crate::word::is_blank;
+use crate::word::longer;
 use libc::STDERR_FILENO;
 use libc::STDIN_FILENO;
 use libc::STDOUT_FILENO;
-
-// How far the input is read: the digits of the word that is being read and how many characters it has, 9 where it is no
-// pattern; how many words have ended; and whether all of them could be answered.
-struct Reading {
-    bits: u32,
-    length: u32,
-    words: u32,
-    written: bool,
-}
-
-// The value of a hexadecimal digit, and 16 for any other character.
-fn value(c: u32) -> u32 {
-    if 48 <= c && c <= 57 {
-        return c - 48;
-    }
-    if 65 <= c && c <= 70 {
-        return c - 55;
-    }
-    if 97 <= c && c <= 102 {
-        return c - 87;
-    }
-    16
-}
-
-// The word with these digits and so many characters, in place of the one that is being read.
-fn with_word(s: Reading, bits: u32, length: u32) -> Reading {
-    Reading {
-        bits,
-        length,
-        words: s.words,
-        written: s.written,
-    }
-}
-
-// The word with one character more.
-fn longer(s: Reading, c: u32) -> Reading {
-    if 7 < s.length {
-        return with_word(s, 0, 9);
-    }
-    let d = value(c);
-    if d == 16 {
-        return with_word(s, 0, 9);
-    }
-    let length = s.length + 1;
-    with_word(s, (s.bits << 4) | d, length)
-}
 
 fn write(text: &[u8]) -> bool {
     io::write_all(STDOUT_FILENO, text)
@@ -94,10 +53,6 @@ fn answered(s: Reading) -> Reading {
     }
 }
 
-fn is_blank(c: u32) -> bool {
-    c == 32 || c == 10 || c == 9 || c == 13
-}
-
 fn wide(b: u8) -> u32 {
     b as u32
 }
@@ -121,7 +76,7 @@ fn after(s: Reading, bytes: &[u8]) -> Reading {
 fn usage() {
     io::write_all(
         STDERR_FILENO,
-        b"usage: root_by_hand < FILE\nReads bit patterns of eight hexadecimal digits and writes how each root is worked out.\n",
+        b"usage: root_by_hand < FILE\nReads patterns of eight hexadecimal digits and writes how each root is found.\n",
     );
 }
 

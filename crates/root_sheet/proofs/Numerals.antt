@@ -105,7 +105,8 @@ value-scaled a h =
     (numeral (a .digits * 2 ^ 37) ++ codes " * 2^" ++ difference (a .exponent) 150)) h)
 
 -- a whole number, as the code makes it
-pub raised : (d k : ℕ) → d < 2 ^ 24 → 173 ≤ k → k ≤ 181 → d * 2 ^ (k - 173) % 4294967296 * 2 ^ 60 + 0 ≡ d * 2 ^ (k - 113)
+pub raised : (d k : ℕ) → d < 2 ^ 24 → 173 ≤ k → k ≤ 181
+    → d * 2 ^ (k - 173) % 4294967296 * 2 ^ 60 + 0 ≡ d * 2 ^ (k - 113)
 raised d k h l u =
     let e : d * 2 ^ (k - 173) % 4294967296 ≡ d * 2 ^ (k - 173) = shl-exact 24 (k - 173) 32 h (omega arith) in
     let j : k - 173 + 60 ≡ k - 113 = omega arith in

@@ -28,10 +28,11 @@ numeral w = decimal (w / 2 ^ 60) ++ cond (eqb (w % 2 ^ 60) 0) [] (codes "." ++ p
 unfoldable pub difference : ℕ → ℕ → List ℕ
 difference k c = cond (ltb k c) (codes "-" ++ decimal (c - k)) (decimal (k - c))
 
--- digits * 2 ^ (exponent - 173): as it is from 2 ^ -37 to below 2 ^ 32, else a number from 1 to below 2 and a power of 2
+-- a number from 2 ^ -37 to below 2 ^ 32, which is written as it is
 unfoldable pub isPlain : ℕ → Bool
 isPlain exponent = leb 113 exponent && leb exponent 181
 
+-- digits * 2 ^ (exponent - 173): as it is, else as a number from 1 to below 2 times a power of two
 unfoldable pub value : Argument → List ℕ
 value a =
     cond (isPlain (a .exponent)) (numeral (a .digits * 2 ^ (a .exponent - 113)))

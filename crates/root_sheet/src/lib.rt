@@ -1,5 +1,5 @@
-// The sheet of a square root (docs/01-scope.md, "The root by hand"): from a bit pattern to the bytes of the text, which is
-// put into a lent buffer. What it shows are the sheets that `number::by_hand` works on.
+// The sheet of a square root (docs/01-scope.md, "The root by hand"): from a bit pattern to the bytes of the text, which
+// is put into a lent buffer. What it shows are the sheets that `number::by_hand` works on.
 mod numeral;
 mod row;
 
@@ -127,8 +127,8 @@ fn put_refused(out: &mut [u8], bits: u32, n: u32) -> usize
     put_bytes(out, e as u32, b"\n")
 }
 
-// Writes the sheet of the number with these bits into the buffer and answers its length. Where the buffer is shorter, what
-// fits is written: a buffer of 4,096 bytes holds every sheet.
+// Writes the sheet of the number with these bits into the buffer and answers its length. Where the buffer is shorter,
+// what fits is written: a buffer of 4,096 bytes holds every sheet.
 pub fn sheet(bits: u32, out: &mut [u8]) -> usize
     ensures text { λ r. ⌜ Put (now (out .entry)) 0 (Def.sheet bits) (now (out .exit)) r ⌝ }
     ensures short { λ r. ⌜ r ≤ 4096 ⌝ }

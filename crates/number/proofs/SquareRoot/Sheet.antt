@@ -86,7 +86,8 @@ module _ (n place : ℕ) (some : 0 < place) (short : n < 2 ^ 50) (s : Sheet) (o 
           omega (arith, mul-le-mul-right place t)
 
   digits-short : d < 2 ^ 25
-  digits-short = lt-of-le-of-lt (le-trans (le-of-eq (sym (mul-one d))) (mul-le-mul-left d some)) (root-short n place short s o)
+  digits-short =
+      lt-of-le-of-lt (le-trans (le-of-eq (sym (mul-one d))) (mul-le-mul-left d some)) (root-short n place short s o)
 
   digits-are : digitsTo n place ≡ d
   unfolding digitsTo

@@ -57,7 +57,8 @@ module _ (x : Float) (p k : ℕ) (low : 2 ^ 23 ≤ p) (high : p < 2 ^ 24) (short
   unfolding argumentOf
   argument-is a f =
       sym (ap (λ (c : Bool). cond c (record { digits = u * 2 ^ 24 / 2 ^ binaryDigits u; exponent = binaryDigits u })
-      (record { digits = 0; exponent = 0 })) (is-true (lt zero32 x && isFinite x) (and-i (lt zero32 x) (isFinite x) a f))
+      (record { digits = 0; exponent = 0 }))
+      (is-true (lt zero32 x && isFinite x) (and-i (lt zero32 x) (isFinite x) a f))
       ∙ ap (λ (j : ℕ). record { digits = u * 2 ^ 24 / 2 ^ j; exponent = j }) count-is
       ∙ ap (λ (q : ℕ). record { digits = q; exponent = k })
       (ap (λ (y : ℕ). y / 2 ^ k) scaled ∙ mul-div-cancel p (pow-pos k)))

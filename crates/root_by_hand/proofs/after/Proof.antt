@@ -14,5 +14,6 @@ abbrev μ-loop : tie.MeasureT-loop
 pub after-spec : {M : Type 1} → statement M
 after-spec =
     tie.close
-    (tie.spec Inv-loop μ-loop (search needs) (search needs) (search needs) (search needs) (search needs) (search needs)
+    (tie.spec Inv-loop μ-loop (search needs) (search needs) (search needs) (search needs) (search needs) (search
+    needs)
     (search needs) (search needs) (search needs) (search needs))

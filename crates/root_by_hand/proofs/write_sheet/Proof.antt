@@ -11,4 +11,5 @@ slice-aggregate-write c =
 pub write-sheet-spec : {M : Type 1} → statement M
 write-sheet-spec =
     tie.close
-    (tie.spec (search needs) (search needs) (search needs) (search needs) slice-aggregate-write (search needs) (search needs))
+    (tie.spec (search needs) (search needs) (search needs) (search needs) slice-aggregate-write (search needs)
+    (search needs))

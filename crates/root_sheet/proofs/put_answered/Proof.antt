@@ -16,4 +16,7 @@ returns c =
     (and-then (and-then (first .put-named .ensures .0) digits) last, search needs)
 
 pub put-answered-spec : {M : Type 1} → statement M
-put-answered-spec = tie.close (tie.spec (search needs) (search needs) (search needs) (search needs) (search needs) (search needs) (search needs) (search needs) (search needs) (search needs) returns)
+put-answered-spec =
+    tie.close
+    (tie.spec (search needs) (search needs) (search needs) (search needs) (search needs) (search needs)
+    (search needs) (search needs) (search needs) (search needs) returns)

@@ -15,4 +15,7 @@ returns c =
     (and-then (and-then (first .put-taken .ensures .0) number) (names .put-bytes .ensures), search needs)
 
 pub put-opening-spec : {M : Type 1} → statement M
-put-opening-spec = tie.close (tie.spec (search needs) (search needs) (search needs) (search needs) (search needs) (search needs) (search needs) (search needs) returns)
+put-opening-spec =
+    tie.close
+    (tie.spec (search needs) (search needs) (search needs) (search needs) (search needs) (search needs)
+    (search needs) (search needs) returns)

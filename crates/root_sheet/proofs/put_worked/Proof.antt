@@ -19,9 +19,13 @@ returns-2 c =
     let above = digits .before .before .before .before in
     let some = above .before .before in
     rw (← some .before .before .argument-of .ensures, ne-eqb _ _ (some .if1 .left)) (
-      and-then (and-then (above .put-opening .ensures .0) (digits .put-rows .ensures .0)) (below .put-closing .ensures .0),
+      and-then (and-then (above .put-opening .ensures .0) (digits .put-rows .ensures .0))
+          (below .put-closing .ensures .0),
       search needs,
     )
 
 pub put-worked-spec : {M : Type 1} → statement M
-put-worked-spec = tie.close (tie.spec (search needs) returns (search needs) (search needs) (search needs) (search needs) (search needs) (search needs) returns-2)
+put-worked-spec =
+    tie.close
+    (tie.spec (search needs) returns (search needs) (search needs) (search needs) (search needs) (search needs)
+    (search needs) returns-2)

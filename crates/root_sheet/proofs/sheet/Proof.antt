@@ -23,7 +23,9 @@ returns c =
     let put = c .before .before in
     let square = put .before .before .before .before .before in
     let text =
-    as-text (tells _ _ _ _ (square .before .float-of .ensures) (square .square-root .ensures .0) (put .before .before .before .answer .given .1))
+    as-text
+    (tells _ _ _ _ (square .before .float-of .ensures) (square .square-root .ensures .0)
+    (put .before .before .before .answer .given .1))
     (put .put-answered .ensures .0) in
     (text, (put .put-answered .ensures .1, whole-text text))
 
@@ -32,9 +34,14 @@ returns-2 c =
     let put = c .before .before in
     let square = put .before .before .before .before .before in
     let text =
-    as-text (tells _ _ _ _ (square .before .float-of .ensures) (square .square-root .ensures .0) (put .before .before .before .answer2 .given .1))
+    as-text
+    (tells _ _ _ _ (square .before .float-of .ensures) (square .square-root .ensures .0)
+    (put .before .before .before .answer2 .given .1))
     (put .put-refused .ensures .0) in
     (text, (put .put-refused .ensures .1, whole-text text))
 
 pub sheet-spec : {M : Type 1} → statement M
-sheet-spec = tie.close (tie.spec (search needs) (search needs) (search needs) (search needs) (search needs) (search needs) (search needs) returns (search needs) returns-2)
+sheet-spec =
+    tie.close
+    (tie.spec (search needs) (search needs) (search needs) (search needs) (search needs) (search needs)
+    (search needs) returns (search needs) returns-2)

@@ -70,7 +70,8 @@ returns c =
     let s = c .before .before .before .before in
     let n = c .before .before .even .result in
     let e = number-is (c .before .before) in (
-      is-sheet (s .args .x) (held s) n e (s .args .turns) (s .args .turns) refl (c .worked .result) (c .worked .ensures),
+      is-sheet (s .args .x) (held s) n e (s .args .turns) (s .args .turns) refl (c .worked .result)
+          (c .worked .ensures),
       room (s .args .x) (held s) n e (s .args .turns) (c .worked .result) (c .worked .ensures),
     )
 

@@ -59,7 +59,8 @@ digit-requires : tie.Need-digit-requires Inv-loop μ-loop
 digit-requires c κs =
     let a = c .before .before in
     let p = c .before .loop in
-    room (a .args .n) (a .args .turns) (p .s) (p .place) (p .done) (p .inv) (a .pre .1) (c .loop-test .taken) (a .pre .0)
+    room (a .args .n) (a .args .turns) (p .s) (p .place) (p .done) (p .inv) (a .pre .1) (c .loop-test .taken)
+    (a .pre .0)
 
 add-done : tie.Need-add-done Inv-loop μ-loop
 add-done c = omega arith

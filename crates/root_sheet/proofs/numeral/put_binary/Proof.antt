@@ -1,4 +1,4 @@
--- `root_sheet::numeral::put_binary` meets its contract: the whole part and the fraction are the number. Assumes nothing.
+-- `root_sheet::numeral::put_binary` meets its contract: whole part and fraction are the number. Assumes nothing.
 use native.Mathlib.Omega.{arith}
 use borrow.Author.Needs.{needs}
 use Rattle.text.proofs.Puts.{as-text}
@@ -24,9 +24,13 @@ returns : tie.Need-returns
 returns c =
     let put = c .before .before in
     let s = put .before .before .before in (
-      as-text (ap numeral (joined (s .args .digits) (s .args .places) (s .pre .1) (s .pre .2))) (put .put-numeral .ensures .0),
+      as-text (ap numeral (joined (s .args .digits) (s .args .places) (s .pre .1) (s .pre .2)))
+          (put .put-numeral .ensures .0),
       put .put-numeral .ensures .1,
     )
 
 pub put-binary-spec : {M : Type 1} → statement M
-put-binary-spec = tie.close (tie.spec (search needs) (search needs) sub-fraction (search needs) (search needs) (search needs) cast-put-numeral put-numeral-requires (search needs) returns)
+put-binary-spec =
+    tie.close
+    (tie.spec (search needs) (search needs) sub-fraction (search needs) (search needs) (search needs)
+    cast-put-numeral put-numeral-requires (search needs) returns)

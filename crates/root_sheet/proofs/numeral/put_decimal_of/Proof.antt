@@ -31,7 +31,8 @@ returns c =
     let a = zero .before .before in
     let e = a .argument-of .ensures in
     let f = a .before .float-of .ensures in
-    rw (← f, ← e, eq-eqb _ _ (zero .if1 .taken), eq-eqb _ _ (put .before .before .before .if2 .taken)) (put .put-bytes .ensures, search needs)
+    let sign = put .before .before .before in
+    rw (← f, ← e, eq-eqb _ _ (zero .if1 .taken), eq-eqb _ _ (sign .if2 .taken)) (put .put-bytes .ensures, search needs)
 
 returns-2 : tie.Need-returns-2
 unfolding decimalOf
@@ -41,7 +42,8 @@ returns-2 c =
     let a = zero .before .before in
     let e = a .argument-of .ensures in
     let f = a .before .float-of .ensures in
-    rw (← f, ← e, eq-eqb _ _ (zero .if1 .taken), ne-eqb _ _ (put .before .before .before .if2 .left)) (put .put-bytes2 .ensures, search needs)
+    let sign = put .before .before .before in
+    rw (← f, ← e, eq-eqb _ _ (zero .if1 .taken), ne-eqb _ _ (sign .if2 .left)) (put .put-bytes2 .ensures, search needs)
 
 returns-3 : tie.Need-returns-3
 unfolding decimalOf
@@ -54,4 +56,7 @@ returns-3 c =
     rw (← f, ← e, ne-eqb _ _ (some .if1 .left)) (put .put-value .ensures)
 
 pub put-decimal-of-spec : {M : Type 1} → statement M
-put-decimal-of-spec = tie.close (tie.spec (search needs) (search needs) (search needs) (search needs) (search needs) (search needs) put-value-requires (search needs) returns (search needs) returns-2 (search needs) returns-3)
+put-decimal-of-spec =
+    tie.close
+    (tie.spec (search needs) (search needs) (search needs) (search needs) (search needs) (search needs)
+    put-value-requires (search needs) returns (search needs) returns-2 (search needs) returns-3)

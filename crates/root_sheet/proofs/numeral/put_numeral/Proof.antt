@@ -21,9 +21,13 @@ returns-2 c =
     let put = some .before .before .before in
     let start = put .before .before .before in (
       as-text (numeral-part _ _ (start .pre .1) (some .if1 .left))
-          (and-then (put .put-decimal .ensures .0) (and-then (point .put-bytes .ensures) (places .put-places .ensures .0))),
+          (and-then (put .put-decimal .ensures .0)
+          (and-then (point .put-bytes .ensures) (places .put-places .ensures .0))),
       search needs,
     )
 
 pub put-numeral-spec : {M : Type 1} → statement M
-put-numeral-spec = tie.close (tie.spec (search needs) (search needs) returns (search needs) (search needs) (search needs) (search needs) (search needs) (search needs) returns-2)
+put-numeral-spec =
+    tie.close
+    (tie.spec (search needs) (search needs) returns (search needs) (search needs) (search needs) (search needs)
+    (search needs) (search needs) returns-2)

@@ -1,4 +1,5 @@
--- `root_sheet::numeral::put_places` meets its contract: each turn puts a digit, and what the definition makes of the rest follows. Assumes nothing.
+-- `root_sheet::numeral::put_places` meets its contract: each turn puts a digit, and what the definition makes of the
+-- rest follows. Assumes nothing.
 use Prim.Native.Nat.{ℕ, zero, suc, _+_, _-_, _*_, _/_, _%_, _^_, _≤_, _<_}
 use native.Mathlib.Omega.{arith}
 use mathlib.Core.Path.{_≡_, refl, sym, ap, _∙_}
@@ -125,4 +126,7 @@ returns-2 c =
     (ended _ _ _ _ _ _ _ (p .inv) (spent (p .done) (p .f) (c .loop-test .left)), omega arith)
 
 pub put-places-spec : {M : Type 1} → statement M
-put-places-spec = tie.close (tie.spec Inv-loop μ-loop loop-holds same-length returns mul-ten cast-put-decimal cast-put-decimal-2 put-decimal-requires add-done loop-less loop-again same-length-2 returns-2)
+put-places-spec =
+    tie.close
+    (tie.spec Inv-loop μ-loop loop-holds same-length returns mul-ten cast-put-decimal cast-put-decimal-2
+    put-decimal-requires add-done loop-less loop-again same-length-2 returns-2)

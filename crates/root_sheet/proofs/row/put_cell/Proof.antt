@@ -8,4 +8,6 @@ returns : tie.Need-returns
 returns c = (search (and-then), search needs)
 
 pub put-cell-spec : {M : Type 1} → statement M
-put-cell-spec = tie.close (tie.spec (search needs) (search needs) (search needs) (search needs) (search needs) returns)
+put-cell-spec =
+    tie.close
+    (tie.spec (search needs) (search needs) (search needs) (search needs) (search needs) returns)

@@ -1,5 +1,5 @@
--- `root_sheet::row::put_rows` meets its contract: after i turns the lines of the first i digits are put. A line has at most 50
--- bytes. Assumes nothing.
+-- `root_sheet::row::put_rows` meets its contract: after i turns the lines of the first i digits are put. A line has at
+-- most 50 bytes. Assumes nothing.
 use Prim.Native.Nat.{ℕ, _+_, _-_, _*_, _%_, _^_, _≤_}
 use native.Mathlib.Nat.{le-antisymm, one-mul}
 use native.Mathlib.Numerals.{add-one}

@@ -14,7 +14,8 @@ returns c =
     let left = trial .before .before .before .before in
     let place = left .before .before .before .before in
     rw (lt-ltb _ _ (word .before .before .before .if1 .taken)) (
-      and-then (and-then (and-then (place .put-cell .ensures .0) (left .put-cell2 .ensures .0)) (trial .put-cell3 .ensures .0))
+      and-then (and-then (and-then (place .put-cell .ensures .0) (left .put-cell2 .ensures .0))
+          (trial .put-cell3 .ensures .0))
           (word .put-bytes .ensures),
       search needs,
     )
@@ -27,10 +28,15 @@ returns-2 c =
     let left = trial .before .before .before .before in
     let place = left .before .before .before .before in
     rw (le-ltb _ _ (word .before .before .before .if1 .left)) (
-      and-then (and-then (and-then (place .put-cell .ensures .0) (left .put-cell2 .ensures .0)) (trial .put-cell3 .ensures .0))
+      and-then (and-then (and-then (place .put-cell .ensures .0) (left .put-cell2 .ensures .0))
+          (trial .put-cell3 .ensures .0))
           (word .put-bytes2 .ensures),
       search needs,
     )
 
 pub put-tried-spec : {M : Type 1} → statement M
-put-tried-spec = tie.close (tie.spec (search needs) (search needs) (search needs) (search needs) (search needs) (search needs) (search needs) (search needs) (search needs) (search needs) (search needs) (search needs) returns (search needs) returns-2)
+put-tried-spec =
+    tie.close
+    (tie.spec (search needs) (search needs) (search needs) (search needs) (search needs) (search needs)
+    (search needs) (search needs) (search needs) (search needs) (search needs) (search needs) returns (search needs)
+    returns-2)
