@@ -48,7 +48,7 @@ module _ (p k : ℕ) (low : 2 ^ 23 ≤ p) (high : p < 2 ^ 24) where
         below f = omega arith
 
     -- the root is not the largest of 25 digits, which would round up to one digit more
-    pub root-high : root < 33554431
+    root-high : root < 33554431
     root-high = lt-of-not-le (λ (g : 33554431 ≤ root).
         let t : 33554431 * 33554431 ≤ root * root = mul-le-mul g g in omega (arith, whole-le))
 

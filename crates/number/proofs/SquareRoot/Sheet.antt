@@ -85,8 +85,8 @@ module _ (n place : ℕ) (some : 0 < place) (short : n < 2 ^ 50) (s : Sheet) (o 
           let t : s .left + 1 ≤ 2 * (d * place) + place = omega arith in
           omega (arith, mul-le-mul-right place t)
 
-  digits-short : d < 2 ^ 25
-  digits-short =
+  count-short : d < 2 ^ 25
+  count-short =
       lt-of-le-of-lt (le-trans (le-of-eq (sym (mul-one d))) (mul-le-mul-left d some)) (root-short n place short s o)
 
   digits-are : digitsTo n place ≡ d
@@ -95,7 +95,7 @@ module _ (n place : ℕ) (some : 0 < place) (short : n < 2 ^ 50) (s : Sheet) (o 
       search-finds (λ (r : ℕ). leb (r * place * (r * place)) n) d fits
       (λ c h. not-T (leb (c * place * (c * place)) n) (λ (t : T (leb (c * place * (c * place)) n)).
       lt-irrefl n (lt-of-lt-of-le (over c h) (leb→le (c * place * (c * place)) n t))))
-      25 0 zero-le digits-short
+      25 0 zero-le count-short
 
   left-is : (n - d * place * (d * place)) / place ≡ s .left
   left-is =

@@ -8,14 +8,14 @@ use native.Mathlib.Omega.{arith}
 use native.Mathlib.Decide.{decLe}
 use lib.Dec.{T}
 use lib.Ieee.{Float, binary32, fits, ofBits}
-use lib.Pow.{pow-add, pow-pos}
+use lib.Pow.{pow-add, pow-mono, pow-pos}
 use Rattle.number.specs.declared.by_hand.Sheet.{Sheet}
 use Rattle.number.specs.Number.{rootOf}
 use Rattle.number.specs.ByHand.{argumentOf, numberOf, sheetAt, sheetAfter}
 use Rattle.number.specs.Inner.{OnSheet}
 use Rattle.number.proofs.SquareRoot.Digits.{number-short, sheet-rounded}
 use Rattle.number.proofs.SquareRoot.Bits.{root-is}
-use Rattle.number.proofs.SquareRoot.Sheet.{digit-zero, digit-one, sheet-blank, sheet-is}
+use Rattle.number.proofs.SquareRoot.Sheet.{digit-zero, digit-one, sheet-blank, sheet-is, twice-short, left-short}
 use Rattle.number.proofs.SquareRoot.Taken.{Taken, digits-short}
 
 -- half a place is the next one
@@ -53,17 +53,32 @@ module _ (x : Float) (f : T (fits binary32 x)) where
   abbrev n : ℕ
   n = argumentOf x .digits * 2 ^ (argumentOf x .exponent % 2)
 
-  short : n < 2 ^ 25
+  pub short : n < 2 ^ 25
   short = number-short (argumentOf x .digits) (argumentOf x .exponent) (digits-short x f)
 
   after : (j : ℕ) → j ≤ 25 → OnSheet (n * 2 ^ 25) (2 ^ (25 - j)) (sheetAfter x j)
   unfolding sheetAfter numberOf
   after j l = on-sheet n short j l
 
-  is-after : (j : ℕ) (r : Sheet) → OnSheet (n * 2 ^ 25) (2 ^ (25 - j)) r → r ≡ sheetAfter x j
+  pub is-after : (j : ℕ) (r : Sheet) → OnSheet (n * 2 ^ 25) (2 ^ (25 - j)) r → r ≡ sheetAfter x j
   unfolding sheetAfter numberOf
   is-after j r o =
       sheet-is (n * 2 ^ 25) (2 ^ (25 - j)) (pow-pos (25 - j)) (let h = short in omega arith) r o
+
+  -- there are no more than 25 digits
+  pub no-more : (j : ℕ) → 25 ≤ j → sheetAfter x 25 ≡ sheetAfter x j
+  unfolding sheetAfter
+  no-more j h =
+      let e : 0 ≡ 25 - j = omega arith in ap (λ (k : ℕ). sheetAt (numberOf (argumentOf x)) (2 ^ k)) e
+
+  pub sheet-room : (j : ℕ) → j ≤ 25 → (sheetAfter x j .twice < 2 ^ 26) × (sheetAfter x j .left < 2 ^ 27)
+  sheet-room j l =
+      let s = sheetAfter x j in
+      let h : n * 2 ^ 25 < 2 ^ 50 = let h = short in omega arith in
+      let p = pow-mono {i = 25 - j} {j = 25} (omega arith) in (
+        twice-short (n * 2 ^ 25) (2 ^ (25 - j)) h s (after j l),
+        omega (arith, left-short (n * 2 ^ 25) (2 ^ (25 - j)) h s (after j l)),
+      )
 
   module _ (j : ℕ) (l : j < 25) where
     abbrev place : ℕ
