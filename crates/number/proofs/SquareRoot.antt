@@ -1,5 +1,5 @@
 -- The square root: the definition taken apart, the digits that the code makes, and what a reader wants to hear.
-pub mod Whole
+pub mod Squares
 pub mod Digits
 pub mod Nearest
 pub mod Sheet

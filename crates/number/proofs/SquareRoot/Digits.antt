@@ -9,7 +9,7 @@ use native.Mathlib.Omega.{arith}
 use lib.Pow.{pow-add, pow-mono, shl-lt}
 use Rattle.number.specs.declared.by_hand.Sheet.{Sheet}
 use Rattle.number.specs.Inner.{OnSheet, RootBits, wholeOf}
-use Rattle.number.proofs.SquareRoot.Whole.{square-even, square-odd, square-next}
+use Rattle.number.proofs.SquareRoot.Squares.{square-even, square-odd, square-next}
 
 -- the number whose root is worked out has at most 25 digits
 pub number-short : (p k : ℕ) → p < 2 ^ 24 → p * 2 ^ (k % 2) < 2 ^ 25

@@ -13,7 +13,7 @@ use Rattle.number.specs.Inner.{RootBits, wholeOf}
 use Rattle.number.proofs.Units.{L, shift, fin-false}
 use Rattle.number.proofs.Patterns.{weight}
 use Rattle.number.proofs.Neighbours.{bits-lt}
-use Rattle.number.proofs.SquareRoot.Whole.{square-next}
+use Rattle.number.proofs.SquareRoot.Squares.{square-next}
 use Rattle.number.proofs.SquareRoot.Digits.{rounded}
 use Rattle.number.proofs.SquareRoot.Bits.{root-is}
 use Rattle.number.proofs.SquareRoot.Argument.{some-bits, scale-normal, lift, raised, scale-subnormal}
