@@ -1,8 +1,10 @@
 -- The numbers still to come in a loop that counts, and the cross pairs still to come in two loops over the columns of
--- either side, of any split; and what a fold over the cross pairs keeps. Assumes nothing.
-use mathlib.Core.Path.{_≡_, ap}
+-- either side, of any split; which cross pairs there are, and what a fold over them keeps and reaches. Assumes nothing.
+use mathlib.Core.Path.{_≡_, ap, subst}
+use mathlib.Core.Logic.{inl, inr}
 use mathlib.Core.List.{List, [], _∷_, _++_, map, flatMap, foldl}
 use Prim.Native.Nat.{ℕ, zero, suc, _+_, _-_, _≤_, _<_}
+use native.Mathlib.Nat.{eq-or-lt-of-le}
 use native.Mathlib.Numerals.{add-one}
 use native.Mathlib.Omega.{arith}
 use Rattle.geometry.specs.Geometry.{Cross, cross, count, crossPairs}
@@ -45,37 +47,86 @@ module _ (split : ℕ) where
   rows-done i h = ap (flatMap (λ (k : ℕ). row k split)) (count-done i split h)
 
 -- ---- the columns of each cross pair
--- both are columns of a pair
-abbrev InPair : Cross → Type 0
-InPair p = (p .first < 4) × (p .second < 4)
+-- a column before the split, and one from it
+abbrev pub Crosses : ℕ → Cross → Type 0
+Crosses split p = (p .first < split) × (split ≤ p .second) × (p .second < 4)
 
-abbrev AllIn : List Cross → Type 0
-AllIn [] = Unit
-AllIn (p ∷ ps) = InPair p × AllIn ps
+abbrev AllCross : ℕ → List Cross → Type 0
+AllCross split [] = Unit
+AllCross split (p ∷ ps) = Crosses split p × AllCross split ps
 
-append-in : (ps qs : List Cross) → AllIn ps → AllIn qs → AllIn (ps ++ qs)
-append-in [] qs h k = k
-append-in (p ∷ ps) qs (h, r) k = (h, append-in ps qs r k)
+module _ (split : ℕ) where
+  append-cross : (ps qs : List Cross) → AllCross split ps → AllCross split qs → AllCross split (ps ++ qs)
+  append-cross [] qs h k = k
+  append-cross (p ∷ ps) qs (h, r) k = (h, append-cross ps qs r k)
 
-row-in : (i j n : ℕ) → i < j → n ≤ 4 - j → AllIn (map (cross i) (count j n))
-unfolding count
-row-in i j zero h l = tt
-row-in i j (suc n) h l = ((omega arith, omega arith), row-in i (suc j) n (omega arith) (omega arith))
+  row-cross : (i j n : ℕ) → i < split → split ≤ j → n ≤ 4 - j → AllCross split (map (cross i) (count j n))
+  unfolding count
+  row-cross i j zero h k l = tt
+  row-cross i j (suc n) h k l =
+      ((omega arith, omega arith, omega arith), row-cross i (suc j) n h (omega arith) (omega arith))
 
-rows-in : (split i n : ℕ) → i + n ≤ split → AllIn (flatMap (λ (k : ℕ). row split k split) (count i n))
-unfolding count flatMap
-rows-in split i zero h = tt
-rows-in split i (suc n) h =
-    append-in (row split i split) _ (row-in i split (4 - split) (omega arith) (omega arith))
-    (rows-in split (suc i) n (omega arith))
+  rows-cross : (i n : ℕ) → i + n ≤ split → AllCross split (flatMap (λ (k : ℕ). row split k split) (count i n))
+  unfolding count flatMap
+  rows-cross i zero h = tt
+  rows-cross i (suc n) h =
+      append-cross (row split i split) _ (row-cross i split (4 - split) (omega arith) (omega arith) (omega arith))
+      (rows-cross (suc i) n (omega arith))
 
 -- what each pair's turn keeps, the whole fold keeps
-pub pairs-keep : {B : Type 0} (P : B → Type 0) (f : B → Cross → B)
-    → ((b : B) (p : Cross) → p .first < 4 → p .second < 4 → P b → P (f b p))
-    → (split : ℕ) (b : B) → P b → P (foldl f b (crossPairs split))
+pub pairs-keep : {B : Type 0} (P : B → Type 0) (f : B → Cross → B) (split : ℕ)
+    → ((b : B) (p : Cross) → Crosses split p → P b → P (f b p))
+    → (b : B) → P b → P (foldl f b (crossPairs split))
 unfolding crossPairs
-pairs-keep {B} P f h split b q = go (crossPairs split) b (rows-in split 0 split (omega arith)) q
+pairs-keep {B} P f split h b q = go (crossPairs split) b (rows-cross split 0 split (omega arith)) q
   where
-    go : (ps : List Cross) (b : B) → AllIn ps → P b → P (foldl f b ps)
+    go : (ps : List Cross) (b : B) → AllCross split ps → P b → P (foldl f b ps)
     go [] b a q = q
-    go (p ∷ ps) b (k, a) q = go ps (f b p) a (h b p (k .0) (k .1) q)
+    go (p ∷ ps) b (k, a) q = go ps (f b p) a (h b p k q)
+
+-- ---- each pair of columns on either side of the split is among the cross pairs
+data In (p : Cross) : List Cross → Type 0 where
+  here : {ps : List Cross} → In p (p ∷ ps)
+  after : {q : Cross} {ps : List Cross} → In p ps → In p (q ∷ ps)
+
+in-left : {p : Cross} (ps qs : List Cross) → In p ps → In p (ps ++ qs)
+in-left (p ∷ ps) qs here = here
+in-left (q ∷ ps) qs (after h) = after (in-left ps qs h)
+
+in-right : {p : Cross} (ps qs : List Cross) → In p qs → In p (ps ++ qs)
+in-right [] qs h = h
+in-right (q ∷ ps) qs h = after (in-right ps qs h)
+
+in-row : (i j n l : ℕ) → j ≤ l → l < j + n → In (cross i l) (map (cross i) (count j n))
+unfolding count
+in-row i j zero l h k = absurd (omega arith)
+in-row i j (suc n) l h k = elim (eq-or-lt-of-le h) [
+  | inl e ↦ subst (λ (m : ℕ). In (cross i m) (map (cross i) (count j (suc n)))) e here
+  | inr m ↦ after (in-row i (suc j) n l m (omega arith))
+]
+
+in-rows : (split i n k l : ℕ) → i ≤ k → k < i + n → split ≤ l → l < 4
+    → In (cross k l) (flatMap (λ (k : ℕ). row split k split) (count i n))
+unfolding count flatMap
+in-rows split i zero k l h m a b = absurd (omega arith)
+in-rows split i (suc n) k l h m a b = elim (eq-or-lt-of-le h) [
+  | inl e ↦
+      in-left (row split i split) _
+      (subst (λ (j : ℕ). In (cross j l) (row split i split)) e (in-row i split (4 - split) l a (omega arith)))
+  | inr o ↦ in-right (row split i split) _ (in-rows split (suc i) n k l o (omega arith) a b)
+]
+
+-- what one pair's turn brings about and every turn keeps, the whole fold has
+pub pairs-reach : {B : Type 0} (P : B → Type 0) (f : B → Cross → B) → ((b : B) (q : Cross) → P b → P (f b q))
+    → (split : ℕ) (p : Cross) → Crosses split p → ((b : B) → P (f b p)) → (b : B) → P (foldl f b (crossPairs split))
+unfolding crossPairs
+pairs-reach {B} P f keep split p (h, k, l) turn b =
+    go (crossPairs split) b (in-rows split 0 split (p .first) (p .second) (omega arith) (omega arith) k l)
+  where
+    on : (ps : List Cross) (b : B) → P b → P (foldl f b ps)
+    on [] b q = q
+    on (r ∷ ps) b q = on ps (f b r) (keep b r q)
+
+    go : (ps : List Cross) (b : B) → In p ps → P (foldl f b ps)
+    go (q ∷ ps) b here = on ps (f b p) (turn b)
+    go (q ∷ ps) b (after i) = go ps (f b q) i

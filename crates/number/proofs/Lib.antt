@@ -30,4 +30,7 @@ pub mod Corners
 pub mod Zeros
 pub mod Alike
 pub mod Unmoved
+pub mod Turned
+pub mod Largest
+pub mod PowersOfTwo
 pub mod Capped

@@ -11,3 +11,4 @@ pub mod Worked
 pub mod Theorem
 pub mod Bounds
 pub mod Answer
+pub mod Multiplied

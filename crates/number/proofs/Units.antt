@@ -26,7 +26,7 @@ abbrev pub shift : ℤ → ℕ
 shift (pos a) = a + 149
 shift (negsuc a) = 149 - suc a
 
-pow-le-back : (a l : ℕ) → 2 ^ a ≤ 2 ^ l → a ≤ l
+pub pow-le-back : (a l : ℕ) → 2 ^ a ≤ 2 ^ l → a ≤ l
 pow-le-back a l h =
     le-of-suc-le-suc (lt-of-not-le (λ (g : suc l ≤ a). lt-irrefl (2 ^ l) (lt-of-lt-of-le (pow-lt g) h)))
 

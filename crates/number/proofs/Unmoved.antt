@@ -24,7 +24,7 @@ signed s nan = nan
 signed s (inf t) = inf t
 signed s (fin t m e) = fin s m e
 
-round-own : (s : Bool) (m : ℕ) (e : ℤ) → T (fits binary32 (fin s m e))
+pub round-own : (s : Bool) (m : ℕ) (e : ℤ) → T (fits binary32 (fin s m e))
     → round binary32 s (m * up e) (down e) ≡ fin s m e
 round-own s m e f = go (round binary32 s (m * up e) (down e)) (round-fits binary32 s (m * up e) (down e)) own
   where

@@ -20,7 +20,7 @@ round-none s a c z C =
     subst Zero (sym (ap (λ (x : ℕ). round binary32 s x c) z ∙ e)) zero-of
 
 -- ---- the sum ±a / c + ±b / c, where a or b is 0: `sum` with the answers of its two tests
-abbrev by-tests : Bool → ℕ → Bool → ℕ → ℕ → Bool → Bool → Float
+abbrev pub by-tests : Bool → ℕ → Bool → ℕ → ℕ → Bool → Bool → Float
 by-tests s a t b c less more =
     cond (Bool·beq s t) (round binary32 s (a + b) c)
     (cond less (round binary32 t (b - a) c) (round binary32 (s && more) (a - b) c))

@@ -27,8 +27,8 @@ square-keeps : (P : Float → Type 0) (x : List (List Float)) (split : ℕ) → 
     → ((p : Cross) → p .first < 4 → p .second < 4 → P (gapSquare x p)) → P (largestSquare x split)
 unfolding largestSquare
 square-keeps P x split z h =
-    pairs-keep P (λ (most : Float) (p : Cross). larger most (gapSquare x p))
-    (λ most p i j q. larger-keeps P most (gapSquare x p) q (h p i j)) split zero32 z
+    pairs-keep P (λ (most : Float) (p : Cross). larger most (gapSquare x p)) split
+    (λ most p c q. larger-keeps P most (gapSquare x p) q (h p (omega arith) (c .2))) zero32 z
 
 square-fits : (x : List (List Float)) (split : ℕ) → T (fits binary32 (largestSquare x split))
 unfolding gapSquare
