@@ -1,6 +1,6 @@
 -- The order of f32 values: comparisons as tests and as facts, infinities and either zero included. Assumes nothing.
 use mathlib.Core.Path.{_≡_, refl, sym}
-use mathlib.Core.Logic.{inl, inr}
+use mathlib.Core.Logic.{_⊎_, inl, inr}
 use mathlib.Core.Bool.{Bool, true, false, not, _&&_, _||_, true≢false}
 use Prim.Native.Nat.{ℕ, _+_, _*_, _≤_}
 use native.Mathlib.Nat.{eq-or-lt-of-le, eq-zero-or-pos}
@@ -18,6 +18,10 @@ or-l false b t = absurd t
 pub or-r : (a b : Bool) → T b → T (a || b)
 or-r true b t = tt
 or-r false b t = t
+
+pub or-cases : (a b : Bool) → T (a || b) → T a ⊎ T b
+or-cases true b t = inl tt
+or-cases false b t = inr t
 
 -- the parts of a disjunction that fails, of a conjunction that holds
 pub or-left : (a b : Bool) → (a || b) ≡ false → a ≡ false

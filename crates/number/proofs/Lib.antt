@@ -32,5 +32,6 @@ pub mod Alike
 pub mod Unmoved
 pub mod Turned
 pub mod Largest
+pub mod Signed
 pub mod PowersOfTwo
 pub mod Capped

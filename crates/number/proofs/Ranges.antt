@@ -1,23 +1,24 @@
 -- What the range tests of specs/Number.antt tell: finite, of what size at most, of what size at least. And the size of
 -- a constant by its bit pattern. Assumes nothing.
-use mathlib.Core.Path.{_≡_, sym, ap, _∙_, subst}
+use mathlib.Core.Path.{_≡_, refl, sym, ap, _∙_, subst}
 use mathlib.Core.Logic.{inl, inr}
 use mathlib.Core.Bool.{Bool, true, false, _&&_, _||_}
 use Prim.Native.Nat.{ℕ, suc, _+_, _-_, _*_, _^_, _≤_, _<_}
-use native.Mathlib.Nat.{le-trans, le-of-eq, lt-of-le-of-lt, eq-zero-or-pos, le-of-lt}
+use native.Mathlib.Nat.{le-trans, le-of-eq, lt-of-le-of-lt, eq-zero-or-pos, le-of-lt, mul-one}
 use native.Mathlib.Omega.{arith}
-use lib.Dec.{T, eqb, eqb→eq, lt→ltb, ltb, ltb→lt}
+use lib.Dec.{T, eqb, eqb→eq, lt→ltb, ltb, ltb→lt, lit<}
 use lib.IntN.{pos, negsuc}
 use lib.Pow.{pow-add}
 use lib.Ieee.{Float, inf, fin, binary32, up, down, neg, lt, le, ofBits, nan}
-use lib.Ieee.Fits.{and-l, and-r, down-pos}
+use lib.Ieee.Fits.{and-i, and-l, and-r, down-pos}
+use lib.Ieee.Order.{le-of-values}
 use lib.Ieee.Scale.{finite}
 use Rattle.number.specs.Number.{zero32, one32, bound, inBound, zeroToBound, zeroToOne, aboveZeroToOne}
 use Rattle.number.specs.Number.{speedRange, infBits}
 use Rattle.number.proofs.Units.{L}
 use Rattle.number.proofs.Within.{Within, within-finite, units-within}
 use Rattle.number.proofs.Quotients.{AtLeast}
-use Rattle.number.proofs.Comparing.{lt-le, minus-plus}
+use Rattle.number.proofs.Comparing.{lt-le, minus-plus, turned}
 use Rattle.number.proofs.Patterns.{val, weight, val-le, bits-are}
 
 -- ---- a constant of sign plus: its pattern is at most that of 2 ^ a
@@ -147,6 +148,21 @@ pub in-bound : (x : Float) → T (inBound x) → Within 20 x
 unfolding ofBits neg
 in-bound x h =
     within-tests 20 x (and-l (le (neg bound) x) (le x bound) h) (and-r (le (neg bound) x) (le x bound) h)
+
+pub within-bound : (x : Float) → Within 20 x → T (inBound x)
+unfolding ofBits neg
+within-bound (fin s m e) h = go s
+  where
+    under : T (le (fin false m e) (power 20))
+    under =
+        le-of-values (fin false m e) (power 20) (m * up e) (down e) (2 ^ 20) 1 (down-pos e) (lit< tt) (refl, refl)
+        (refl, refl) (le-trans (le-of-eq (mul-one (m * up e))) h)
+
+    go : (s : Bool) → T (inBound (fin s m e))
+    go false = and-i (le (minus-power 20) (fin false m e)) (le (fin false m e) (power 20)) (minus-plus 1 (pos 20) m e) under
+    go true =
+        and-i (le (minus-power 20) (fin true m e)) (le (fin true m e) (power 20)) (turned m e 1 (pos 20) under)
+        (minus-plus m e 1 (pos 20))
 
 pub zero-to-bound : (x : Float) → T (zeroToBound x) → T (le zero32 x) × Within 20 x
 unfolding ofBits

@@ -4,13 +4,14 @@ use mathlib.Core.Path.{_≡_, refl, sym, ap, _∙_}
 use Prim.Native.Nat.{ℕ, zero, suc, _+_, _-_, _*_, _^_, _≤_, _<_}
 use native.Mathlib.Nat.{mul-comm, add-comm}
 use native.Mathlib.Omega.{arith}
-use mathlib.Core.Bool.{Bool, true, false, not, _&&_, Bool·beq, cond, true≢false, false≢true}
+use mathlib.Core.Bool.{Bool, true, false, not, cond}
 use lib.Dec.{T, ltb, ltb→lt, nltb→le}
 use lib.Ieee.{Float, nan, inf, fin, binary32, up, down, round, units, odd, neg, sum, add, sub, mul}
 use lib.Ieee.Order.{drop, kept}
 use lib.Ieee.Fits.{round-is}
 use Rattle.number.specs.Number.{_⊕_, _⊖_, _⊗_, size}
 use Rattle.number.proofs.Units.{L}
+use Rattle.number.proofs.Zeros.{by-tests}
 
 -- ---- the size of what is rounded is rounded with the sign plus
 odd-size : (d : ℕ) (s : Bool) (q k l : ℕ) → size (odd d s q k l) ≡ odd d false q k l
@@ -32,43 +33,29 @@ round-size s a c =
     ∙ sym (round-is binary32 false a c)
 
 -- ---- a sum in either order
--- `sum` of unlike signs with the answers of its two tests
-abbrev by-tests : Bool → ℕ → Bool → ℕ → ℕ → Bool → Bool → Float
-by-tests s a t b c less more = cond less (round binary32 t (b - a) c) (round binary32 (s && more) (a - b) c)
-
-unlike-turned : (s t : Bool) (a b c : ℕ) (p q : Bool) → (T p → a < b) → (T (not p) → b ≤ a) → (T q → b < a)
-    → (T (not q) → a ≤ b) → s ≡ not t → by-tests s a t b c p q ≡ by-tests t b s a c q p
-unlike-turned s t a b c true true f g h k e = absurd (both (f tt) (h tt))
+sum-unlike : (a b c : ℕ) → sum binary32 true a false b c ≡ sum binary32 false b true a c
+unfolding sum
+sum-unlike a b c = go (ltb a b) (ltb b a) (ltb→lt a b) (nltb→le a b) (ltb→lt b a) (nltb→le b a)
   where
-    both : a < b → b < a → ⊥
-    both l m = omega arith
-unlike-turned true false a b c true false f g h k e = refl
-unlike-turned false true a b c true false f g h k e = refl
-unlike-turned true false a b c false true f g h k e = refl
-unlike-turned false true a b c false true f g h k e = refl
-unlike-turned true false a b c false false f g h k e =
-    ap (λ (x : ℕ). round binary32 false x c) (none (g tt) (k tt))
-  where
-    none : b ≤ a → a ≤ b → a - b ≡ b - a
-    none l m = omega arith
-unlike-turned false true a b c false false f g h k e =
-    ap (λ (x : ℕ). round binary32 false x c) (none (g tt) (k tt))
-  where
-    none : b ≤ a → a ≤ b → a - b ≡ b - a
-    none l m = omega arith
-unlike-turned true true a b c true false f g h k e = absurd (true≢false e)
-unlike-turned false false a b c true false f g h k e = absurd (false≢true e)
-unlike-turned true true a b c false q f g h k e = absurd (true≢false e)
-unlike-turned false false a b c false q f g h k e = absurd (false≢true e)
+    go : (less more : Bool) → (T less → a < b) → (T (not less) → b ≤ a) → (T more → b < a) → (T (not more) → a ≤ b)
+        → by-tests true a false b c less more ≡ by-tests false b true a c more less
+    go true true f g h k = absurd (both (f tt) (h tt))
+      where
+        both : a < b → b < a → ⊥
+        both l m = omega arith
+    go true false f g h k = refl
+    go false true f g h k = refl
+    go false false f g h k = ap (λ (x : ℕ). round binary32 false x c) (none (g tt) (k tt))
+      where
+        none : b ≤ a → a ≤ b → a - b ≡ b - a
+        none l m = omega arith
 
 sum-turned : (s : Bool) (a : ℕ) (t : Bool) (b c : ℕ) → sum binary32 s a t b c ≡ sum binary32 t b s a c
 unfolding sum
 sum-turned true a true b c = ap (λ (x : ℕ). round binary32 true x c) (add-comm a b)
 sum-turned false a false b c = ap (λ (x : ℕ). round binary32 false x c) (add-comm a b)
-sum-turned true a false b c =
-    unlike-turned true false a b c (ltb a b) (ltb b a) (ltb→lt a b) (nltb→le a b) (ltb→lt b a) (nltb→le b a) refl
-sum-turned false a true b c =
-    unlike-turned false true a b c (ltb a b) (ltb b a) (ltb→lt a b) (nltb→le a b) (ltb→lt b a) (nltb→le b a) refl
+sum-turned true a false b c = sum-unlike a b c
+sum-turned false a true b c = sym (sum-unlike b a c)
 
 pub add-turned : (x y : Float) → x ⊕ y ≡ y ⊕ x
 unfolding add
@@ -97,8 +84,7 @@ sum-opposite s a t b c = go s t (ltb a b) (ltb b a)
     same s t x = round-size s x c ∙ sym (round-size t x c)
 
     go : (s t p q : Bool)
-        → size (cond (Bool·beq (not s) (not t)) (round binary32 (not s) (a + b) c) (by-tests (not s) a (not t) b c p q))
-        ≡ size (cond (Bool·beq s t) (round binary32 s (a + b) c) (by-tests s a t b c p q))
+        → size (by-tests (not s) a (not t) b c p q) ≡ size (by-tests s a t b c p q)
     go true true p q = same false true (a + b)
     go false false p q = same true false (a + b)
     go true false true q = same true false (b - a)
@@ -119,7 +105,7 @@ add-opposite (fin s m e) nan = refl
 add-opposite (fin s m e) (inf t) = refl
 add-opposite (fin s m e) (fin t n d) = sum-opposite s (m * up e * down d) t (n * up d * down e) (down e * down d)
 
-neg-neg : (x : Float) → neg (neg x) ≡ x
+pub neg-neg : (x : Float) → neg (neg x) ≡ x
 unfolding neg
 neg-neg nan = refl
 neg-neg (inf true) = refl

@@ -13,7 +13,7 @@ use lib.Ieee.{Float, nan, inf, fin, binary32, up, down, round, sum, add, sub, mu
 use lib.Ieee.Fits.{down-pos}
 use lib.Ieee.Exact.{HasValue}
 use lib.Ieee.Scale.{finite}
-pub use Rattle.number.proofs.Comparing.{or-l, or-r, not-lt-le}
+pub use Rattle.number.proofs.Comparing.{or-l, or-r, or-cases, not-lt-le}
 pub use Rattle.number.proofs.Choice.{clamp-in}
 pub use Rattle.number.proofs.NoNan.{round-no-nan, div-no-nan}
 use Rattle.number.proofs.Rounding.{rnd, Rep, rnd-mono, rnd-fix}
@@ -94,7 +94,7 @@ add-within a (fin s m e) (fin t n d) l h k =
     (le-trans (mul-le-mul-right (down e) k)
     (le-of-eq (mul-assoc (2 ^ a) (down d) (down e) ∙ ap (λ (x : ℕ). 2 ^ a * x) (mul-comm (down d) (down e)))))
 
-neg-within : (a : ℕ) (x : Float) → Within a x → Within a (neg x)
+pub neg-within : (a : ℕ) (x : Float) → Within a x → Within a (neg x)
 unfolding neg
 neg-within a (fin s m e) h = h
 

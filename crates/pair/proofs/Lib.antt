@@ -1,3 +1,4 @@
 -- Laws that other crates cite. Assumes nothing.
 pub mod Norms
 pub mod StayFinite
+pub mod SamePair

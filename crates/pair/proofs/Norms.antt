@@ -1,6 +1,7 @@
 -- The norm of any four points has the sign plus, so it is not below zero; of points within the bound it is at most
 -- 2 ^ 22. Assumes nothing.
 use Prim.Native.Nat.{ℕ, _<_}
+use native.Mathlib.Omega.{arith}
 use mathlib.Core.Path.{_≡_, sym, subst}
 use mathlib.Core.List.{List}
 use lib.Dec.{T, lit≤, lit<}
@@ -30,7 +31,7 @@ square-keeps P x split z h =
     pairs-keep P (λ (most : Float) (p : Cross). larger most (gapSquare x p)) split
     (λ most p c q. larger-keeps P most (gapSquare x p) q (h p (omega arith) (c .2))) zero32 z
 
-square-fits : (x : List (List Float)) (split : ℕ) → T (fits binary32 (largestSquare x split))
+pub square-fits : (x : List (List Float)) (split : ℕ) → T (fits binary32 (largestSquare x split))
 unfolding gapSquare
 square-fits x split =
     square-keeps (λ (y : Float). T (fits binary32 y)) x split (ofBits-fits binary32 0)

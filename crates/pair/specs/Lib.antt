@@ -1,2 +1,3 @@
--- What the contracts of `pair` cite. Definitions only.
+-- What the contracts of `pair`, and its theorems, cite. Definitions only.
 pub mod Points
+pub mod SamePair

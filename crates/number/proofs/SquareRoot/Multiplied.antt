@@ -5,7 +5,7 @@ use mathlib.Core.Logic.{inl, inr}
 use mathlib.Core.Bool.{false}
 use Prim.Native.Nat.{ℕ, _+_, _*_, _/_, _%_, _^_, _≤_, _<_}
 use native.Mathlib.Nat.{le-trans, le-of-eq, le-of-lt, lt-of-lt-of-le, lt-of-le-of-lt, le-add-right, eq-zero-or-pos}
-use native.Mathlib.Nat.{zero-mul, mul-one, mul-assoc, mul-right-comm, mul-pos, mul-le-mul-right}
+use native.Mathlib.Nat.{zero-mul, mul-assoc, mul-right-comm, mul-pos, mul-le-mul-right}
 use native.Mathlib.Omega.{arith}
 use lib.Dec.{T, ltb}
 use lib.Pow.{pow-add, pow-pos}
@@ -14,11 +14,11 @@ use lib.Ieee.Exact.{HasValue}
 use Rattle.number.specs.Number.{zero32, isFinite, unitsOf, rootOf}
 use Rattle.number.specs.Inner.{RootBits, wholeOf}
 use Rattle.number.proofs.Units.{L, Top, Is, plus, pow-le-back, zero-is, lt-is, says-lt, finite-is, of-float}
-use Rattle.number.proofs.Sums.{to-is}
 use Rattle.number.proofs.Signs.{plus-up}
 use Rattle.number.proofs.Finite.{is-finite}
 use Rattle.number.proofs.Patterns.{val, bits-plus}
-use Rattle.number.proofs.PowersOfTwo.{Times, plus-false}
+use Rattle.number.proofs.Signed.{value-plus}
+use Rattle.number.proofs.PowersOfTwo.Times.{Times, zero-times}
 use Rattle.number.proofs.SquareRoot.Nearest.{units-is}
 use Rattle.number.proofs.SquareRoot.Bits.{bits-lt, val-is, root-is, unit}
 use Rattle.number.proofs.SquareRoot.Argument.{not-above}
@@ -89,15 +89,6 @@ short-of p k u low e h =
     small k h = omega arith
 
 -- ---- of numbers of sign plus
-pub zero-times : (t : ℕ) → Times t zero32 zero32
-unfolding ofBits
-zero-times t = record {
-  sign = false;
-  units = 0;
-  small = (refl, refl);
-  large = (refl, sym (mul-one (0 * 2 ^ t) ∙ zero-mul (2 ^ t)));
-}
-
 module _ (t : ℕ) (x y : Float) (f : T (fits binary32 x)) (g : T (fits binary32 y)) (a : T (plus x)) (b : T (plus y))
     (q : Times (t + t) x y) where
   abbrev u : ℕ
@@ -107,10 +98,10 @@ module _ (t : ℕ) (x y : Float) (f : T (fits binary32 x)) (g : T (fits binary32
   v = u * 2 ^ (t + t)
 
   x-is : Is x u
-  x-is = to-is x u (plus-false x (q .sign) u a (q .small))
+  x-is = value-plus x (q .sign) u a (q .small)
 
   y-is : Is y v
-  y-is = to-is y v (plus-false y (q .sign) v b (q .large))
+  y-is = value-plus y (q .sign) v b (q .large)
 
   none : u ≡ 0 → Times t (rootOf x) (rootOf y)
   none z =

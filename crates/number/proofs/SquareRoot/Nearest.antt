@@ -1,7 +1,7 @@
 -- The definition of the square root (specs/Number.antt) taken apart: the middles grow with the patterns, so every
 -- pattern up to the nearest is reached and none after it, and the search finds it. Assumes nothing.
 use mathlib.Core.Path.{_≡_, sym, ap, _∙_, subst}
-use mathlib.Core.Logic.{_⊎_, inl, inr}
+use mathlib.Core.Logic.{inl, inr}
 use mathlib.Core.Bool.{Bool, true, false, cond, not, _&&_, _||_}
 use Prim.Native.Nat.{ℕ, zero, suc, _+_, _-_, _*_, _/_, _%_, _^_, _≤_, _<_, zero-le}
 use native.Mathlib.Nat.{lt-irrefl, le-of-eq, le-of-lt, lt-of-lt-of-le, lt-of-le-of-lt, lt-of-not-le, eq-or-lt-of-le}
@@ -16,7 +16,7 @@ use Rattle.number.specs.Number.{zero32, isFinite, infBits, unitsOf, twic
 use Rattle.number.specs.Number.{last, rootOf}
 use Rattle.number.proofs.Numbers.{le-of-not-lt, square-mono}
 use Rattle.number.proofs.Units.{Is, size-is}
-use Rattle.number.proofs.Within.{or-l, or-r}
+use Rattle.number.proofs.Within.{or-l, or-r, or-cases}
 use Rattle.number.proofs.Patterns.{val, val-lt, val-le, bits-are}
 
 -- ---- counts
@@ -41,10 +41,6 @@ middle-lt b c h l =
     (le-of-eq (sym (middle-is c l))))
 
 -- ---- what the test says
-or-cases : (a b : Bool) → T (a || b) → T a ⊎ T b
-or-cases true b t = inl tt
-or-cases false b t = inr t
-
 module _ (x : Float) (b : ℕ) where
   abbrev m : ℕ
   m = twiceMiddle b * twiceMiddle b
