@@ -6,7 +6,7 @@ use mathlib.Core.Path.{_≡_}
 use mathlib.Core.Logic.{_⊎_, inl, inr, _↔_}
 use mathlib.Core.Bool.{Bool, true, false, not, _&&_, _||_}
 use mathlib.Core.List.{List}
-use lib.Dec.{T, eqb, eqb→eq}
+use lib.Dec.{T, eqb, eqb→eq, lit<}
 use lib.Ieee.{Float}
 use lib.Ieee.Fits.{and-i, and-l, and-r}
 use Rattle.number.specs.Number.{isFinite, inBound, zeroToBound, zeroToOne, speedRange, refusal}
@@ -46,6 +46,23 @@ module _ (test : Float → Bool) where
       go (suc (suc (suc zero))) j k l = three-each (col x 3) (all .3) j l
       go (suc (suc (suc (suc i)))) j k l = absurd (omega arith)
 
+  pub three-all : (v : List Float) → ((j : ℕ) → j < 3 → T (test (at v j))) → T (ofThree test v)
+  three-all v h =
+      and-i (test (at v 0) && test (at v 1)) (test (at v 2))
+      (and-i (test (at v 0)) (test (at v 1)) (h 0 (lit< tt)) (h 1 (lit< tt))) (h 2 (lit< tt))
+
+  pub twelve-all : (x : List (List Float)) → Each test x → T (ofTwelve test x)
+  twelve-all x h =
+      and-i (row 0 && row 1 && row 2) (row 3)
+      (and-i (row 0 && row 1) (row 2) (and-i (row 0) (row 1) (each 0 (lit< tt)) (each 1 (lit< tt))) (each 2 (lit< tt)))
+      (each 3 (lit< tt))
+    where
+      row : ℕ → Bool
+      row i = ofThree test (col x i)
+
+      each : (i : ℕ) → i < 4 → T (row i)
+      each i k = three-all (col x i) (λ j l. h i j k l)
+
 -- each number of points within the bound is at most 2 ^ 20 in size
 pub points-within : (x : List (List Float)) → T (boundedPoints x)
     → (i j : ℕ) → i < 4 → j < 3 → Within 20 (at (col x i) j)
@@ -53,23 +70,10 @@ unfolding boundedPoints
 points-within x h i j k l = in-bound (at (col x i) j) (twelve-each inBound x h i j k l)
 
 -- ---- what lies in its range is finite
-three-real : (v : List Float) → T (ofThree inBound v) → T (ofThree isFinite v)
-three-real v h =
-    let t = all-three (inBound (at v 0)) (inBound (at v 1)) (inBound (at v 2)) h in
-    and-i (isFinite (at v 0) && isFinite (at v 1)) (isFinite (at v 2))
-    (and-i (isFinite (at v 0)) (isFinite (at v 1)) (bound-real (at v 0) (t .0)) (bound-real (at v 1) (t .1)))
-    (bound-real (at v 2) (t .2))
-
 pub points-real : (x : List (List Float)) → T (boundedPoints x) → T (finitePoints x)
 unfolding boundedPoints finitePoints
 points-real x h =
-    let range : ℕ → Bool = λ i. ofThree inBound (col x i) in
-    let real : ℕ → Bool = λ i. ofThree isFinite (col x i) in
-    let q = all-four (range 0) (range 1) (range 2) (range 3) h in
-    and-i (real 0 && real 1 && real 2) (real 3)
-    (and-i (real 0 && real 1) (real 2)
-    (and-i (real 0) (real 1) (three-real (col x 0) (q .0)) (three-real (col x 1) (q .1)))
-    (three-real (col x 2) (q .2))) (three-real (col x 3) (q .3))
+    twelve-all isFinite x (λ i j k l. bound-real (at (col x i) j) (twelve-each inBound x h i j k l))
 
 pub pair-real : (x dx : List (List Float)) → T (boundedPoints x && boundedPoints dx)
     → T (finitePoints x && finitePoints dx)

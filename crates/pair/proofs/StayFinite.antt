@@ -1,43 +1,29 @@
 -- Every number that an admitted call on points answers or leaves is finite: a place; moved, centred, scaled points.
 -- Assumes nothing.
-use Prim.Native.Nat.{ℕ, _<_}
+use Prim.Native.Nat.{ℕ}
 use mathlib.Core.Path.{_≡_, refl, sym, _∙_, subst}
-use mathlib.Core.Bool.{Bool, _&&_}
 use mathlib.Core.List.{List}
-use lib.Dec.{T, lit≤, lit<}
+use lib.Dec.{T, lit≤}
 use lib.Ieee.{Float}
-use lib.Ieee.Fits.{and-i}
 use Rattle.number.specs.Number.{isFinite, inBound, admitted}
 use Rattle.number.proofs.Answers.{taken}
 use Rattle.number.proofs.Ranges.{in-bound, zero-to-bound, zero-to-one}
 use Rattle.geometry.specs.Geometry.{at, col, lerpOf, moved, centred, scaled}
-use Rattle.geometry.proofs.Bounds.{VecWithin, PointsWithin, col-within, lerp-within, moved-within, scaled-within}
+use Rattle.geometry.proofs.Bounds.{VecWithin, PointsWithin, lerp-within, moved-within, scaled-within}
 use Rattle.geometry.proofs.Bounds.{centred-within}
 use Rattle.admission.specs.Admission.{ofThree, ofTwelve, finitePoints, pointsRefusal, factorRefusal, timeRefusal}
 use Rattle.admission.specs.Admission.{ratioRefusal}
 use Rattle.pair.specs.Points.{zeros, placed, movedInto, centredIn, scaledIn}
 use Rattle.number.proofs.Finite.{within-real}
-use Rattle.admission.proofs.Admitted.{three-each, points-within, points-admits, factor-admits}
+use Rattle.admission.proofs.Admitted.{three-each, three-all, twelve-all, points-within, points-admits, factor-admits}
 use Rattle.admission.proofs.Admitted.{time-admits, ratio-admits}
 
 -- three numbers, and twelve, are finite if each is within a power of two
 three : (a : ℕ) (v : List Float) → VecWithin a v → T (ofThree isFinite v)
-three a v h =
-    let real : (j : ℕ) → j < 3 → T (isFinite (at v j)) = λ j l. within-real a (at v j) (h j l) in
-    and-i (isFinite (at v 0) && isFinite (at v 1)) (isFinite (at v 2))
-    (and-i (isFinite (at v 0)) (isFinite (at v 1)) (real 0 (lit< tt)) (real 1 (lit< tt))) (real 2 (lit< tt))
+three a v h = three-all isFinite v (λ j l. within-real a (at v j) (h j l))
 
 twelve : (a : ℕ) (x : List (List Float)) → PointsWithin a x → T (ofTwelve isFinite x)
-twelve a x h =
-    and-i (row 0 && row 1 && row 2) (row 3)
-    (and-i (row 0 && row 1) (row 2) (and-i (row 0) (row 1) (each 0 (lit< tt)) (each 1 (lit< tt))) (each 2 (lit< tt)))
-    (each 3 (lit< tt))
-  where
-    row : ℕ → Bool
-    row i = ofThree isFinite (col x i)
-
-    each : (i : ℕ) → i < 4 → T (row i)
-    each i k = three a (col x i) (col-within a i x k h)
+twelve a x h = twelve-all isFinite x (λ i j k l. within-real a (at (col x i) j) (h i j k l))
 
 -- the clauses of a call that lends points: a refusal, points, and points that are finite where it is 0
 pub with-finite : (n m : ℕ) (x y : List (List Float)) → n ≡ m → x ≡ y → (m ≡ 0 → T (finitePoints y))

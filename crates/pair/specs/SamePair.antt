@@ -7,9 +7,9 @@ use mathlib.Core.List.{List, foldl}
 use lib.Dec.{T, eqb, ltb}
 use lib.IntN.{ℤ}
 use lib.Ieee.{Float, fin, binary32, up, down, neg, le, eq, fits, ofBits}
-use Rattle.number.specs.Number.{_⊕_, _⊖_, _⊗_, zero32, size, isFinite, bound, between, unitsOf}
+use Rattle.number.specs.Number.{_⊕_, _⊗_, zero32, size, isFinite, bound, between, unitsOf}
 use Rattle.geometry.specs.Geometry.{at, col, vec, minus, columns, scaled, Cross, crossPairs}
-use Rattle.admission.specs.Admission.{ofTwelve, boundedPoints}
+use Rattle.admission.specs.Admission.{ofThree, ofTwelve, boundedPoints}
 
 -- ---- the columns in another order
 -- column (order i) stands at place i
@@ -47,39 +47,30 @@ powerOf k = fin false 1 k
 unfoldable pub normal : Float → Bool
 normal x = fits binary32 x && isFinite x && le (ofBits binary32 0x0080_0000) (size x)
 
--- x is a normal f32, or zero with no rounding: the exact number is none
-abbrev pub exact : Bool → Float → Bool
-exact none x = normal x || none
-
 abbrev pub isZero : Float → Bool
 isZero x = eq x zero32
 
--- a coordinate, and its product, which is not rounded: in units, it is 2 ^ k times the coordinate
+-- a difference or a sum: where it is zero, it is so with no rounding
+unfoldable pub normalOrZero : Float → Bool
+normalOrZero x = normal x || isZero x
+
+-- a square is zero with no rounding where the number is zero
+unfoldable pub exactSquare : Float → Bool
+exactSquare d = normal (d ⊗ d) || isZero d
+
+-- a coordinate, and its product with 2 ^ k, which is not rounded: in units it is 2 ^ k times the coordinate
 unfoldable pub exactCoordinate : ℤ → Float → Bool
 exactCoordinate k c =
     let product = c ⊗ powerOf k in
-    exact (isZero c) c && exact (isZero c) product && eqb (unitsOf product * down k) (unitsOf c * up k)
-
--- a difference, a square, a sum of squares
-unfoldable pub exactDifference : Float → Float → Bool
-exactDifference a b = exact (eq a b) (a ⊖ b)
-
-unfoldable pub exactSquare : Float → Bool
-exactSquare d = exact (isZero d) (d ⊗ d)
-
-unfoldable pub exactSum : Float → Float → Bool
-exactSum p q = exact (isZero p && isZero q) (p ⊕ q)
+    normalOrZero c && normalOrZero product && eqb (unitsOf product * down k) (unitsOf c * up k)
 
 -- all that the norm computes of a cross pair; of every cross pair
 unfoldable pub exactGap : List (List Float) → Cross → Bool
 exactGap x p =
-    let a = col x (p .first) in
-    let b = col x (p .second) in
-    let gap = minus a b in
+    let gap = minus (col x (p .first)) (col x (p .second)) in
     let square : ℕ → Float = λ i. at gap i ⊗ at gap i in
-    (exactDifference (at a 0) (at b 0) && exactDifference (at a 1) (at b 1) && exactDifference (at a 2) (at b 2))
-    && (exactSquare (at gap 0) && exactSquare (at gap 1) && exactSquare (at gap 2))
-    && (exactSum (square 0) (square 1) && exactSum (square 0 ⊕ square 1) (square 2))
+    ofThree normalOrZero gap && ofThree exactSquare gap
+    && (normalOrZero (square 0 ⊕ square 1) && normalOrZero (square 0 ⊕ square 1 ⊕ square 2))
 
 unfoldable pub exactGaps : List (List Float) → ℕ → Bool
 exactGaps x split = foldl (λ (so : Bool) (p : Cross). so && exactGap x p) true (crossPairs split)
