@@ -73,16 +73,22 @@ module _ (split : ℕ) where
       append-cross (row split i split) _ (row-cross i split (4 - split) (omega arith) (omega arith) (omega arith))
       (rows-cross (suc i) n (omega arith))
 
--- what each pair's turn keeps, the whole fold keeps
+-- what each pair's turns keep between two folds, the whole folds keep
+pub pairs-match : {A B : Type 0} (R : A → B → Type 0) (f : A → Cross → A) (g : B → Cross → B) (split : ℕ)
+    → ((a : A) (b : B) (p : Cross) → Crosses split p → R a b → R (f a p) (g b p))
+    → (a : A) (b : B) → R a b → R (foldl f a (crossPairs split)) (foldl g b (crossPairs split))
+unfolding crossPairs
+pairs-match {A} {B} R f g split h a b r = go (crossPairs split) a b (rows-cross split 0 split (omega arith)) r
+  where
+    go : (ps : List Cross) (a : A) (b : B) → AllCross split ps → R a b → R (foldl f a ps) (foldl g b ps)
+    go [] a b c r = r
+    go (p ∷ ps) a b (k, c) r = go ps (f a p) (g b p) c (h a b p k r)
+
+-- so it is with one fold
 pub pairs-keep : {B : Type 0} (P : B → Type 0) (f : B → Cross → B) (split : ℕ)
     → ((b : B) (p : Cross) → Crosses split p → P b → P (f b p))
     → (b : B) → P b → P (foldl f b (crossPairs split))
-unfolding crossPairs
-pairs-keep {B} P f split h b q = go (crossPairs split) b (rows-cross split 0 split (omega arith)) q
-  where
-    go : (ps : List Cross) (b : B) → AllCross split ps → P b → P (foldl f b ps)
-    go [] b a q = q
-    go (p ∷ ps) b (k, a) q = go ps (f b p) a (h b p k q)
+pairs-keep {B} P f split h b q = pairs-match (λ (b c : B). P b) f f split (λ b c p k q. h b p k q) b b q
 
 -- ---- each pair of columns on either side of the split is among the cross pairs
 data In (p : Cross) : List Cross → Type 0 where

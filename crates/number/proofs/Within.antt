@@ -34,8 +34,8 @@ within-more a b (fin s m e) l h = le-trans h (mul-le-mul-right (down e) (pow-mon
 rep-pow : (a : ℕ) → Rep (2 ^ a * L)
 rep-pow a = (1, a + 149, lit< tt, sym (pow-add 2 a 149) ∙ sym (one-mul (2 ^ (a + 149))))
 
-from-value : (a : ℕ) (s : Bool) (x : Float) (w : ℕ) → w ≤ 2 ^ a * L → HasValue x s w L → Within a x
-from-value a s (fin t m e) w h v =
+pub value-within : (a : ℕ) (s : Bool) (x : Float) (w : ℕ) → w ≤ 2 ^ a * L → HasValue x s w L → Within a x
+value-within a s (fin t m e) w h v =
     le-of-mul-le-mul-right (le-trans (le-of-eq (v .1))
     (le-trans (mul-le-mul-right (down e) h) (le-of-eq (mul-right-comm (2 ^ a) L (down e))))) (pow-pos 149)
 
@@ -62,7 +62,7 @@ round-within a s num den D l h =
     (le-of-eq (mul-right-comm (2 ^ a) den L ∙ ap (λ (x : ℕ). x * den) (sym (mul-one (2 ^ a * L))))))))
     (le-of-eq (rnd-fix (2 ^ a * L) 1 (pow-pos 0) (rep-pow a))) in
     let t : 2 ^ a * L < Top = lt-of-le-of-lt (le-of-eq (sym (pow-add 2 a 149))) (pow-lt (room a l)) in
-    from-value a s (round binary32 s num den) (rnd (num * L) den) r (round-at s num den (lt-of-le-of-lt r t))
+    value-within a s (round binary32 s num den) (rnd (num * L) den) r (round-at s num den (lt-of-le-of-lt r t))
   where
     room : (a : ℕ) → a ≤ 127 → a + 149 < 277
     room a l = omega arith

@@ -5,3 +5,5 @@ pub mod Columns
 pub mod Reordered
 pub mod Turned
 pub mod Refused
+pub mod Tested
+pub mod Multiplied
