@@ -1,10 +1,10 @@
 -- A finite f32 of either sign as a sign and a whole number of units of 2 ^ -149 (`HasValue x s u L`): what is rounded, and
 -- sums, of units. Assumes nothing.
 use mathlib.Core.Path.{_≡_, refl, sym, ap, _∙_, subst}
-use mathlib.Core.Bool.{Bool, true, false, not, _&&_, Bool·beq}
+use mathlib.Core.Bool.{Bool, true, false, not, _||_, Bool·beq}
 use Prim.Native.Nat.{ℕ, _+_, _-_, _*_, _/_, _^_, _≤_, _<_}
 use native.Mathlib.Nat.{lt-of-not-le, mul-one, mul-comm, mul-pos, mul-lt-mul-of-pos-right, lt-of-mul-lt-mul-right}
-use native.Mathlib.Nat.{add-mul, mul-sub, mul-div-cancel, eq-of-mul-eq-mul-right}
+use native.Mathlib.Nat.{add-mul, mul-sub, zero-mul, mul-div-cancel, eq-of-mul-eq-mul-right}
 use native.Mathlib.Omega.{arith}
 use native.Mathlib.Decide.{decLe}
 use lib.Dec.{T, ltb, eqb, ltb→lt, lt→ltb, eqb→eq}
@@ -17,6 +17,7 @@ use Rattle.number.specs.Number.{_⊕_, zero32, size, unitsOf}
 use Rattle.number.proofs.Rounding.{rnd, Rep}
 use Rattle.number.proofs.Units.{L, Top, Is, plus, shift, left, right, same-test, fin-false, none-of}
 use Rattle.number.proofs.Sums.{round-at, round-over, add-opens}
+use Rattle.number.proofs.Comparing.{or-r}
 use Rattle.number.proofs.Sizes.{fits-plus}
 use Rattle.number.proofs.Zeros.{by-tests}
 use Rattle.number.proofs.Unmoved.{round-own}
@@ -58,6 +59,16 @@ zero-value (fin s m e) h =
   where
     none : (m a d l : ℕ) → m * a * 1 ≡ 0 * d → m * a * l ≡ 0 * d
     none m a d l e = omega (arith, ap (λ (n : ℕ). n * l) e)
+
+pub value-zero : (x : Float) (s : Bool) → HasValue x s 0 L → T (eq x zero32)
+unfolding eq ofBits
+value-zero (fin r m e) s v =
+    let z : m * up e * 1 ≡ 0 = none m (up e) (none-of m (up e) L (up-pos e) (pow-pos 149) (v .1 ∙ zero-mul (down e))) in
+    and-i (eqb (m * up e * 1) (0 * down e)) (Bool·beq r false || eqb (m * up e * 1) 0) (eq→eqb (z ∙ sym (zero-mul (down e))))
+    (or-r (Bool·beq r false) (eqb (m * up e * 1) 0) (eq→eqb z))
+  where
+    none : (m a : ℕ) → m ≡ 0 → m * a * 1 ≡ 0
+    none m a e = omega (arith, ap (λ (n : ℕ). n * a) e)
 
 -- what is rounded and stays finite has the sign, and its units
 pub round-value : (s : Bool) (a c : ℕ) → T (finite (round binary32 s a c))

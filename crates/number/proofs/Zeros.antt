@@ -6,11 +6,18 @@ use native.Mathlib.Omega.{arith}
 use mathlib.Core.Bool.{Bool, true, false, not, _&&_, Bool·beq, cond}
 use lib.Dec.{T, not-T, ltb, lt→ltb, ltb→lt, lit<}
 use lib.IntN.{pos}
-use lib.Ieee.{Float, fin, binary32, round, sum}
+use lib.Ieee.{Float, fin, binary32, round, sum, eq, ofBits}
 use lib.Ieee.Scale.{round-same}
+use Rattle.number.specs.Number.{zero32}
 
 pub data Zero : Float → Type 0 where
   zero-of : {s : Bool} → Zero (fin s 0 (pos 0))
+
+-- by the test
+pub zero-eq : (x : Float) → Zero x → T (eq x zero32)
+unfolding eq ofBits
+zero-eq x (zero-of {s = true}) = tt
+zero-eq x (zero-of {s = false}) = tt
 
 -- a fraction of 0 rounds to a zero
 pub round-none : (s : Bool) (a c : ℕ) → a ≡ 0 → 0 < c → Zero (round binary32 s a c)

@@ -1,5 +1,6 @@
--- The same pair written otherwise (specs/SamePair.antt) has the same norm, for all numbers, NaN and infinities included,
--- and is refused alike: columns in another order within the sides, edges exchanged, signs changed. Assumes nothing.
+-- Theorems of the norm, of every four points, split and order (docs/01-scope.md, "The same pair, written otherwise"). The same
+-- pair written otherwise (specs/SamePair.antt) has the same norm, whatever its numbers are, NaN and infinities included,
+-- and is refused alike. Multiplied by a power of two, exactly, it has its norm multiplied. Assumes nothing.
 pub mod Covered
 pub mod Columns
 pub mod Reordered
@@ -7,3 +8,107 @@ pub mod Turned
 pub mod Refused
 pub mod Tested
 pub mod Multiplied
+pub mod Grid
+pub mod Plain
+use Prim.Native.Nat.{ℕ, suc, _<_}
+use mathlib.Core.Path.{_≡_, sym, ap, _∙_, subst}
+use mathlib.Core.Bool.{Bool, true, _&&_}
+use mathlib.Core.List.{List, [], _∷_}
+use lib.{Dec.T, ListN.getD}
+use lib.IntN.{ℤ, pos, negsuc}
+use lib.Ieee.{Float, binary32, fits}
+use lib.Ieee.Bits.{is-true}
+use lib.Ieee.Fits.{and-i}
+use Rattle.number.specs.Number.{_⊗_, refusal}
+use Rattle.number.proofs.SquareRoot.Bounds.{root-from-zero}
+use Rattle.number.proofs.PowersOfTwo.Products.{times-up, times-down}
+use Rattle.geometry.specs.Geometry.{at, col, scaled}
+use Rattle.admission.specs.Admission.{ofTwelve, finitePoints, boundedPoints, isSplit, splitRefusal}
+use Rattle.admission.proofs.Admitted.{twelve-each, points-real}
+use Rattle.pair.specs.Points.{largestSquare, normOf}
+use Rattle.pair.specs.SamePair.{reordered, withinSides, exchanged, opposite, powerOf, exactCoordinate, exactGaps}
+use Rattle.pair.specs.SamePair.{ExactTimes, plainTimes}
+use Rattle.pair.proofs.Norms.{square-fits}
+use Rattle.pair.proofs.SamePair.Columns.{scaled-number}
+use Rattle.pair.proofs.SamePair.Reordered.{within-onto, reordered-norm}
+use Rattle.pair.proofs.SamePair.Turned.{other, other-onto, exchanged-norm, opposite-norm}
+use Rattle.pair.proofs.SamePair.Refused.{reordered-refusal, opposite-refusal}
+use Rattle.pair.proofs.SamePair.Tested.{ByPower, coordinate-times}
+use Rattle.pair.proofs.SamePair.Multiplied.{norm-times}
+use Rattle.pair.proofs.SamePair.Plain.{plain-times}
+
+-- ---- 1. the columns in another order within the sides, of any split
+pub norm-reordered : (x : List (List Float)) (split : ℕ) (order : ℕ → ℕ) → T (withinSides split order)
+    → normOf (reordered order x) split ≡ normOf x split
+norm-reordered x split order h = reordered-norm split order h x
+
+pub refusal-reordered : (x : List (List Float)) (split : ℕ) (order : ℕ → ℕ) → T (withinSides split order)
+    → splitRefusal (reordered order x) split ≡ splitRefusal x split
+refusal-reordered x split order h = reordered-refusal order (within-onto split order h) x split
+
+-- the four orders of two edges, and the six of a face and a vertex
+abbrev by : ℕ → ℕ → ℕ → ℕ → ℕ → ℕ
+by a b c d i = getD (a ∷ b ∷ c ∷ d ∷ []) i 4
+
+pub edge-orders : T (withinSides 2 (by 0 1 2 3) && withinSides 2 (by 1 0 2 3) && withinSides 2 (by 0 1 3 2)
+    && withinSides 2 (by 1 0 3 2))
+unfolding withinSides
+edge-orders = tt
+
+pub face-orders : T (withinSides 3 (by 0 1 2 3) && withinSides 3 (by 0 2 1 3) && withinSides 3 (by 1 0 2 3)
+    && withinSides 3 (by 1 2 0 3) && withinSides 3 (by 2 0 1 3) && withinSides 3 (by 2 1 0 3))
+unfolding withinSides
+face-orders = tt
+
+-- ---- 2. both edges exchanged
+pub norm-exchanged : (x : List (List Float)) → normOf (exchanged x) 2 ≡ normOf x 2
+norm-exchanged x = exchanged-norm x
+
+pub refusal-exchanged : (x : List (List Float)) → splitRefusal (exchanged x) 2 ≡ splitRefusal x 2
+refusal-exchanged x = reordered-refusal other other-onto x 2
+
+-- ---- 3. all signs changed
+pub norm-opposite : (x : List (List Float)) (split : ℕ) → normOf (opposite x) split ≡ normOf x split
+norm-opposite x split = opposite-norm x split
+
+pub refusal-opposite : (x : List (List Float)) (split : ℕ) → splitRefusal (opposite x) split ≡ splitRefusal x split
+refusal-opposite x split = opposite-refusal x split
+
+-- ---- 4. every number times 2 ^ k
+norm-fits : (x : List (List Float)) (split : ℕ) → T (fits binary32 (normOf x split))
+unfolding normOf
+norm-fits x split = root-from-zero (largestSquare x split) (square-fits x split) .fit
+
+pub norm-multiplied : (k : ℤ) (x : List (List Float)) (split : ℕ) → ExactTimes k x split
+    → normOf (scaled x (powerOf k)) split ≡ normOf x split ⊗ powerOf k
+norm-multiplied k x split e = go k (e .before) (e .after) (λ i j m l. number k e i j m l)
+  where
+    number : (k : ℤ) → ExactTimes k x split → (i j : ℕ) → i < 4 → j < 3
+        → ByPower k (at (col x i) j) (at (col (scaled x (powerOf k)) i) j)
+    number k e i j m l =
+        subst (ByPower k (at (col x i) j)) (sym (scaled-number x (powerOf k) i j m l))
+        (coordinate-times k (at (col x i) j) (twelve-each (exactCoordinate k) x (e .coordinates) i j m l))
+
+    go : (k : ℤ) → T (exactGaps x split) → T (exactGaps (scaled x (powerOf k)) split)
+        → ((i j : ℕ) → i < 4 → j < 3 → ByPower k (at (col x i) j) (at (col (scaled x (powerOf k)) i) j))
+        → normOf (scaled x (powerOf k)) split ≡ normOf x split ⊗ powerOf k
+    go (pos t) a b h =
+        let y = scaled x (powerOf (pos t)) in
+        sym (times-up t (normOf x split) (normOf y split) (norm-times t x y split h a b) (norm-fits y split))
+    go (negsuc n) a b h =
+        let y = scaled x (powerOf (negsuc n)) in
+        sym (times-down n (normOf y split) (normOf x split) (norm-times (suc n) y x split h b a) (norm-fits y split))
+
+pub multiplied-admitted : (k : ℤ) (x : List (List Float)) (split : ℕ) → ExactTimes k x split → T (isSplit split)
+    → splitRefusal (scaled x (powerOf k)) split ≡ 0
+unfolding splitRefusal
+multiplied-admitted k x split e h =
+    let y = scaled x (powerOf k) in
+    let ranged = and-i (boundedPoints y) (isSplit split) (e .limits) h in
+    ap (λ (b : Bool). refusal b (boundedPoints y && isSplit split))
+    (is-true (finitePoints y) (points-real y (e .limits)))
+    ∙ ap (refusal true) (is-true (boundedPoints y && isSplit split) ranged)
+
+-- so it is where each number is zero, or of size 2 ^ -40 to 2 ^ 20 before and after
+pub plain-multiplied : (k : ℤ) (x : List (List Float)) (split : ℕ) → T (ofTwelve (plainTimes k) x) → ExactTimes k x split
+plain-multiplied k x split h = plain-times k x h split

@@ -3,7 +3,7 @@ use mathlib.Core.Path.{_≡_, refl, sym, ap, _∙_, subst}
 use mathlib.Core.Bool.{Bool, true, false}
 use Prim.Native.Nat.{ℕ, suc, _+_, _*_, _^_, _≤_, _<_}
 use native.Mathlib.Nat.{le-trans, le-of-eq, le-of-lt, lt-of-not-le, not-le-of-lt, mul-one, mul-assoc, mul-pos}
-use native.Mathlib.Nat.{mul-le-mul-right, eq-of-mul-eq-mul-right}
+use native.Mathlib.Nat.{mul-le-mul-right, eq-of-mul-eq-mul-right, zero-mul}
 use native.Mathlib.Omega.{arith}
 use lib.Dec.{T, lit<}
 use lib.IntN.{ℤ, pos, negsuc}
@@ -15,6 +15,7 @@ use lib.Ieee.Scale.{finite, round-same}
 use Rattle.number.specs.Number.{_⊗_}
 use Rattle.number.proofs.Rounding.{rnd, Rep, rnd-mono, rnd-same, rnd-fix, rnd-own, rep-grid}
 use Rattle.number.proofs.Units.{L}
+use Rattle.number.proofs.Zeros.{Zero, round-none}
 use Rattle.number.proofs.Signed.{round-value, value-own}
 use Rattle.number.proofs.PowersOfTwo.Times.{Times, rnd-power}
 
@@ -47,6 +48,11 @@ product-value k x s u p f =
     (rnd-same (u * up k * L) (L * down k) (u * up k) (down k) (mul-pos (pow-pos 149) (down-pos k)) (down-pos k)
     (mul-assoc (u * up k) L (down k)))
     (round-value s (u * up k) (L * down k) (subst (λ (z : Float). T (finite z)) e f)))
+
+pub product-zero : (k : ℤ) (x : Float) (s : Bool) → HasValue x s 0 L → Zero (x ⊗ power k)
+product-zero k x s p =
+    subst Zero (sym (product-round k x s 0 p))
+    (round-none s (0 * up k) (L * down k) (zero-mul (up k)) (mul-pos (pow-pos 149) (down-pos k)))
 
 -- a product of more than 2 ^ 23 units is not rounded
 pub product-exact : (k : ℤ) (u : ℕ) → Rep u → 2 ^ 23 < rnd (u * up k) (down k)

@@ -19,7 +19,7 @@ use Rattle.number.proofs.Signed.{round-value, value-neg, value-plus, lt
 
 -- ---- rounding
 -- a whole number of units
-rnd-whole : (n : ℕ) → rnd (n * L) L ≡ rnd n 1
+pub rnd-whole : (n : ℕ) → rnd (n * L) L ≡ rnd n 1
 rnd-whole n = rnd-same (n * L) L n 1 (pow-pos 149) (pow-pos 0) (mul-one (n * L))
 
 pub rnd-power : (n t : ℕ) → rnd (n * 2 ^ t) 1 ≡ rnd n 1 * 2 ^ t

@@ -7,7 +7,7 @@ use mathlib.Core.List.{List}
 use lib.Ieee.{Float, neg}
 use Rattle.number.specs.Number.{_⊕_, _⊖_, _⊗_}
 use Rattle.number.proofs.Turned.{sub-opposite, square-turned}
-use Rattle.geometry.specs.Geometry.{at, col, vec, minus, dot, columns, Cross}
+use Rattle.geometry.specs.Geometry.{at, col, vec, minus, dot, columns, times, scaled, Cross}
 use Rattle.pair.specs.Points.{gapSquare}
 
 pub column : (f : ℕ → List Float) (i : ℕ) → i < 4 → col (columns f) i ≡ f i
@@ -54,3 +54,14 @@ gap-opposite a b =
         ≡ (at a i ⊖ at b i) ⊗ (at a i ⊖ at b i) =
     λ i. ap (λ (z : Float). z ⊗ z) (sub-opposite (at a i) (at b i)) ∙ square-turned (at a i) (at b i) in
     dot-same _ _ _ _ _ _ (same 0) (same 1) (same 2)
+
+-- a number of scaled points
+pub scaled-number : (x : List (List Float)) (f : Float) (i j : ℕ) → i < 4 → j < 3
+    → at (col (scaled x f) i) j ≡ at (col x i) j ⊗ f
+scaled-number x f i j k l = ap (λ (v : List Float). at v j) (column (λ (i : ℕ). times (col x i) f) i k) ∙ number j l
+  where
+    number : (j : ℕ) → j < 3 → at (times (col x i) f) j ≡ at (col x i) j ⊗ f
+    number zero l = refl
+    number (suc zero) l = refl
+    number (suc (suc zero)) l = refl
+    number (suc (suc (suc j))) l = absurd (omega arith)

@@ -42,8 +42,8 @@ module _ (order : ℕ → ℕ) (o : Onto order) (x : List (List Float)) where
       subst (λ (v : List Float). T (test (at v j))) (sym (column f i k))
       (twelve-each test x t (order i) j (o .there i k) l)))
 
-  pub refused-reordered : (split : ℕ) → splitRefusal (reordered order x) split ≡ splitRefusal x split
-  refused-reordered split = alike (reordered order x) x split (numbers-same isFinite) (numbers-same inBound)
+  pub reordered-refusal : (split : ℕ) → splitRefusal (reordered order x) split ≡ splitRefusal x split
+  reordered-refusal split = alike (reordered order x) x split (numbers-same isFinite) (numbers-same inBound)
 
 -- ---- all signs changed
 finite-neg : (c : Float) → T (isFinite c) → T (isFinite (neg c))
@@ -73,6 +73,6 @@ module _ (test : Float → Bool) (keeps : (c : Float) → T (test c) → T (test
       is i j k l =
           ap (λ (v : List Float). at v j) (column (λ (i : ℕ). minusOf (col x i)) i k) ∙ number (col x i) j l
 
-pub refused-opposite : (x : List (List Float)) (split : ℕ) → splitRefusal (opposite x) split ≡ splitRefusal x split
-refused-opposite x split =
+pub opposite-refusal : (x : List (List Float)) (split : ℕ) → splitRefusal (opposite x) split ≡ splitRefusal x split
+opposite-refusal x split =
     alike (opposite x) x split (signs-same isFinite finite-neg x) (signs-same inBound bound-neg x)

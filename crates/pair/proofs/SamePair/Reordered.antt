@@ -110,5 +110,5 @@ module _ (split : ℕ) (order : ℕ → ℕ) (h : T (withinSides split order)) w
             ∙ sym (gap-of x p)),
       )
 
-  pub norm-reordered : (x : List (List Float)) → normOf (reordered order x) split ≡ normOf x split
-  norm-reordered x = covered-norm split (reordered order x) x (new-covered x) (old-covered x)
+  pub reordered-norm : (x : List (List Float)) → normOf (reordered order x) split ≡ normOf x split
+  reordered-norm x = covered-norm split (reordered order x) x (new-covered x) (old-covered x)

@@ -48,8 +48,8 @@ module _ (x : List (List Float)) where
             ∙ sym (gap-columns (λ (i : ℕ). col x (other i)) (cross (other j) (other i)) (omega arith) (omega arith)),
       )
 
-  pub norm-exchanged : normOf (exchanged x) 2 ≡ normOf x 2
-  norm-exchanged = covered-norm 2 (exchanged x) x new-edges old-edges
+  pub exchanged-norm : normOf (exchanged x) 2 ≡ normOf x 2
+  exchanged-norm = covered-norm 2 (exchanged x) x new-edges old-edges
 
   -- ---- signs
   opposite-gap : (split : ℕ) (p : Cross) → Crosses split p → gapSquare (opposite x) p ≡ gapSquare x p
@@ -57,7 +57,7 @@ module _ (x : List (List Float)) where
       gap-columns (λ (i : ℕ). minusOf (col x i)) p (omega arith) (c .2)
       ∙ gap-opposite (col x (p .first)) (col x (p .second)) ∙ sym (gap-of x p)
 
-  pub norm-opposite : (split : ℕ) → normOf (opposite x) split ≡ normOf x split
-  norm-opposite split =
+  pub opposite-norm : (split : ℕ) → normOf (opposite x) split ≡ normOf x split
+  opposite-norm split =
       covered-norm split (opposite x) x (λ p c. (p, c, opposite-gap split p c))
       (λ p c. (p, c, sym (opposite-gap split p c)))
