@@ -105,7 +105,7 @@ pub fn test(seed: u64) -> bool {
         let program = [this.clone(), "stand-in".to_string(), fault.name.to_string()];
         let quiet = fault.name != NONE.name;
         let tally = compare::run_program(&plan, &program, quiet, quiet);
-        let caught = tally.differences() > 0;
+        let caught = tally.differences.count() > 0;
         let right = caught == quiet;
         let verdict = match (caught, right) {
             (true, true) => format!("caught within {} calls", tally.calls()),
