@@ -60,9 +60,9 @@ impl Rules {
         root_off: 0,
     };
 
-    /// The square root of a finite number not below zero, correctly rounded.
+    /// The square root of a number not below zero, correctly rounded; plus zero for an infinity.
     fn root(&self, x: f32) -> f32 {
-        if x == 0.0 {
+        if x == 0.0 || x.is_infinite() {
             0.0
         } else {
             f32::from_bits(x.sqrt().to_bits() + self.root_off)
