@@ -20,7 +20,7 @@ impl Source {
     }
 
     /// Numbers of which the squared differences are seldom rounded away: small whole numbers of one unit, numbers of one
-    /// exponent, coarse ones; some of them zero, some equal.
+    /// exponent, coarse ones; some of them zero, some equal, and sometimes all columns alike.
     fn of_one_size(&mut self) -> Points {
         let exponent = self.between(-62, 19);
         let unit = power_of_two(exponent) as f32;
@@ -34,6 +34,9 @@ impl Source {
             let [i, j] = [self.below(4), self.below(4)].map(|column| column as usize);
             let coordinate = self.below(3) as usize;
             x[i][coordinate] = if self.once_in(2) { 0.0 } else { x[j][coordinate] };
+        }
+        if self.once_in(16) {
+            x = [x[0]; 4];
         }
         x.map(|column| column.map(|n| n.max(-BOUND).min(BOUND)))
     }

@@ -57,21 +57,28 @@ impl Multiplied {
         Multiplied { x, y: x.map(|column| column.map(|n| times(n, k))), split, k }
     }
 
+    /// Whether a number that is not zero has become zero.
+    pub fn vanished(&self) -> bool {
+        self.numbers().any(|(before, after)| before != 0.0 && after == 0.0)
+    }
+
+    /// Each number before and after.
+    fn numbers(&self) -> impl Iterator<Item = (f32, f32)> + '_ {
+        self.x.iter().flatten().copied().zip(self.y.iter().flatten().copied())
+    }
+
     /// The parts of the condition that do not hold.
     pub fn failing(&self) -> Vec<Part> {
         PARTS.into_iter().filter(|&part| !self.holds(part)).collect()
     }
 
     fn holds(&self, part: Part) -> bool {
-        let before_and_after = || self.x.iter().chain(&self.y).flatten();
+        let normal_or_zero = |n: f32| n.is_normal() || n == 0.0;
         let each_cross =
             |test: fn((Point, Point)) -> bool| cross(&self.x, self.split).chain(cross(&self.y, self.split)).all(test);
         match part {
-            Part::Coordinates => before_and_after().all(|&n| n.is_normal() || n == 0.0),
-            Part::Products => {
-                let both = self.x.iter().flatten().zip(self.y.iter().flatten());
-                both.into_iter().all(|(&a, &b)| f64::from(b) == exactly(a, self.k))
-            }
+            Part::Coordinates => self.numbers().all(|(a, b)| normal_or_zero(a) && normal_or_zero(b)),
+            Part::Products => self.numbers().all(|(a, b)| f64::from(b) == exactly(a, self.k)),
             Part::Differences => each_cross(|(a, b)| (0..3).all(|i| (a[i] - b[i]).is_normal() || a[i] == b[i])),
             Part::Squares => each_cross(|(a, b)| (0..3).all(|i| squares((a, b))[i].is_normal() || a[i] - b[i] == 0.0)),
             Part::Sums => each_cross(|both| {
@@ -79,7 +86,7 @@ impl Multiplied {
                 let normal = |a: f32, b: f32| (a + b).is_normal() || a == 0.0 && b == 0.0;
                 normal(p, q) && normal(p + q, r)
             }),
-            Part::Bound => self.y.iter().flatten().all(|n| n.abs() <= BOUND),
+            Part::Bound => self.numbers().all(|(_, b)| b.abs() <= BOUND),
         }
     }
 }

@@ -27,8 +27,9 @@ named! {
         TimesNorm: "times 2^k: the norm is zero",
         TimesBound: "times 2^k: a number comes to 2^20 in size",
         TimesLeast: "times 2^k: a square is 2^-126, before or after",
-        Rounded: "norm not multiplied: a product with 2^k is rounded, all else of the condition holds",
-        Square: "norm not multiplied: a square is not normal, all else of the condition holds",
+        Rounded: "norm not multiplied: a product with 2^k is rounded, and normal; all else of the condition holds",
+        Vanished: "norm not multiplied: a product with 2^k is rounded to zero; all else of the condition holds",
+        Square: "norm not multiplied: a square is not normal; all else of the condition holds, but for the sums",
         RefusedNotFinite: "refused by 1",
         RefusedLimits: "refused by 2: a number",
         RefusedSplit: "refused by 2: the split",
@@ -40,13 +41,13 @@ named! {
 
 pub struct Cover {
     counts: Vec<u64>,
-    /// the smallest and the largest k by which a pair was multiplied
-    powers: (i32, i32),
+    /// the smallest and the largest k by which a pair was multiplied: of a norm above zero, and of any
+    powers: [(i32, i32); 2],
 }
 
 impl Cover {
     pub fn new() -> Cover {
-        Cover { counts: vec![0; NAMES.len()], powers: (0, 0) }
+        Cover { counts: vec![0; NAMES.len()], powers: [(0, 0); 2] }
     }
 
     pub fn note(&mut self, met: Met) {
@@ -63,8 +64,13 @@ impl Cover {
         if failing.is_empty() {
             self.by_the_law(both, norm);
         } else if f64::from(Rules::DOCUMENT.norm(&both.y, both.split)) != exactly(norm, both.k) {
-            let alone = |part| failing == [part];
-            self.note_where(&[(alone(Part::Products), Met::Rounded), (alone(Part::Squares), Met::Square)]);
+            let (rounded, vanished) = (failing == [Part::Products], both.vanished());
+            let of_squares = |part: &Part| matches!(part, Part::Squares | Part::Sums);
+            self.note_where(&[
+                (rounded && !vanished, Met::Rounded),
+                (rounded && vanished, Met::Vanished),
+                (failing.iter().all(of_squares), Met::Square),
+            ]);
         }
         failing.is_empty()
     }
@@ -83,7 +89,8 @@ impl Cover {
             (any(&y, |n| n.abs() == BOUND), Met::TimesBound),
             (least(&x) || least(&y), Met::TimesLeast),
         ]);
-        self.powers = (self.powers.0.min(k), self.powers.1.max(k));
+        let powers = if norm == 0.0 { &mut self.powers[1..] } else { &mut self.powers[..] };
+        powers.iter_mut().for_each(|(least, most)| (*least, *most) = (k.min(*least), k.max(*most)));
     }
 
     pub fn refused(&mut self, x: &Points, split: u32, refusal: u32) {
@@ -109,6 +116,7 @@ impl Cover {
     pub fn print(&self) {
         println!("met:");
         print(NAMES, &self.counts);
-        println!("times 2^k for k from {} to {}", self.powers.0, self.powers.1);
+        let [(least, most), (least_of_any, most_of_any)] = self.powers;
+        println!("k from {least} to {most} where the norm is above zero, from {least_of_any} to {most_of_any} in all");
     }
 }

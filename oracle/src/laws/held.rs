@@ -1,7 +1,7 @@
 //! One side's answers, held to each other group by group.
 
 use super::condition::exactly;
-use super::group::{Law, Member, LAWS};
+use super::group::{Member, LAWS};
 use crate::calls::Call;
 use crate::differences::Differences;
 use crate::functions::Function;
@@ -24,9 +24,9 @@ impl Held {
         Held { whose, first: None, calls: 0, by_law: [0; LAWS.len()], differences: Differences::new(quiet) }
     }
 
-    /// How often each law did not hold.
-    pub fn broken(&self, law: Law) -> u64 {
-        self.by_law[law as usize]
+    /// The laws that did not hold of all.
+    pub fn broken(&self) -> Vec<&'static str> {
+        LAWS.iter().zip(self.by_law).filter(|&(_, count)| count > 0).map(|(&law, _)| law).collect()
     }
 
     pub fn print(&self) {

@@ -10,20 +10,20 @@ use crate::words::Words;
 type Listed = (&'static str, &'static [i32]);
 
 const LISTED: [Listed; 9] = [
-    // a = 2^-39 less its 2^24-th part on one side, b = 2^-39 on the other: b - a is 2^-63. At k = -87 a is rounded up to
-    // 2^-126, which is normal, and b becomes that number, too: the difference is gone
-    ("2bffffff 0 0 2bffffff 0 0 2c000000 0 0 2c000000 0 0 2", &[-63, -86, -87]),
-    ("2bffffff 0 0 2bffffff 0 0 2bffffff 0 0 2c000000 0 0 3", &[-63, -86, -87]),
-    // the least square that is normal, and the greatest number
-    ("20000000 0 0 0 0 0 0 0 0 0 0 0 2", &[83, 84, 1, -1]),
-    ("49800000 0 0 0 0 0 0 0 0 0 0 0 3", &[-83, -84, -1, 1]),
-    // 3 and 0: at k = -63 the square is normal, from k = -65 on it is not, and at k = -75 it is rounded
-    ("40400000 0 0 0 0 0 0 0 0 0 0 0 2", &[-63, -65, -75]),
-    ("0 0 0 0 0 0 0 0 0 0 c0400000 0 3", &[-63, -65, -75]),
-    // a norm of zero: all numbers zero, of either sign; all columns alike, by the least and the greatest power
-    ("0 0 0 80000000 0 0 0 0 80000000 0 0 0 2", &[1, -1, 300, -300]),
-    ("49800000 0 3f800000 49800000 0 3f800000 49800000 0 3f800000 49800000 0 3f800000 3", &[-126, -127, 1]),
-    ("800000 0 0 800000 0 0 800000 0 0 800000 0 0 2", &[146, 147, -1]),
+    // a = 2^-39 less its 2^24-th part on one side, b = 2^-39 on the other: b - a is 2^-63, its square 2^-126. At k = -87 b
+    // becomes 2^-126, and so does a, rounded up: that is a normal number, and the difference is gone
+    ("2bffffff 0 0 2bffffff 0 0 2c000000 0 0 2c000000 0 0 2", &[59, -87]),
+    ("2bffffff 0 0 2bffffff 0 0 2bffffff 0 0 2c000000 0 0 3", &[59, -87]),
+    // the least number whose square is normal, and the greatest number: the furthest that a norm above zero can be taken
+    ("20000000 0 0 0 0 0 0 0 0 0 0 0 2", &[83, 84, -1]),
+    ("49800000 0 0 0 0 0 0 0 0 0 0 0 3", &[-83, -84, 1]),
+    // 3 on one side: at k = -64 its square is normal; at k = -75 it is not, and is rounded; at k = -152 3 becomes zero
+    ("40400000 0 0 0 0 0 0 0 0 0 0 0 2", &[-64, -75, -152]),
+    ("0 0 0 0 0 0 0 0 0 0 c0400000 0 3", &[-64, -75, -152]),
+    // a norm of zero: all numbers zero, of either sign; all columns alike, as far up and down as numbers go
+    ("0 0 0 80000000 0 0 0 0 80000000 0 0 0 2", &[300, -300]),
+    ("800000 0 0 800000 0 0 800000 0 0 800000 0 0 2", &[146, 147]),
+    ("49800000 0 0 49800000 0 0 49800000 0 0 49800000 0 0 3", &[-146, -147]),
 ];
 
 /// The listed pairs, each with its powers.

@@ -11,7 +11,8 @@ mod walk;
 pub type Point = [f32; 3];
 pub type Points = [Point; 4];
 
-pub use distance::Distance;
+pub use distance::{dot, Distance};
+pub use pair::squared_difference;
 pub use roots::{missing, Coefficients, Linear, Roots};
 pub use walk::{Kind, Limits};
 
@@ -44,6 +45,8 @@ pub struct Rules {
     pub drops_repeated: bool,
     /// How many bits a square root is off, 0.
     pub root_off: u32,
+    /// What the norm makes of two columns of a pair.
+    pub of_columns: fn(&Points, usize, usize) -> f32,
 }
 
 impl Rules {
@@ -58,6 +61,7 @@ impl Rules {
         linear: Linear::TimesRange,
         drops_repeated: false,
         root_off: 0,
+        of_columns: squared_difference,
     };
 
     /// The square root of a number not below zero, correctly rounded; plus zero for an infinity.
