@@ -19,11 +19,12 @@ pub struct Fault {
 
 pub const NONE: Fault = Fault { name: "none", rules: Rules::DOCUMENT, distort: |_, _| {}, breaks: &[] };
 
-pub const FAULTS: [Fault; 24] = [
+pub const FAULTS: [Fault; 25] = [
     Fault { name: "interior-of-edges-left-out", rules: Rules { left_out: [Some(4), None], ..Rules::DOCUMENT }, ..NONE },
     Fault { name: "edge-of-face-left-out", rules: Rules { left_out: [None, Some(2)], ..Rules::DOCUMENT }, ..NONE },
     Fault { name: "last-of-equals", rules: Rules { last_of_equals: true, ..Rules::DOCUMENT }, ..NONE },
     Fault { name: "slack-halved", rules: Rules { round_slack: 1.0 / 8_388_608.0, ..Rules::DOCUMENT }, ..NONE },
+    Fault { name: "slack-left-out", rules: Rules { coordinate_slack: 0.0, ..Rules::DOCUMENT }, ..NONE },
     Fault { name: "one-probe-more", rules: Rules { probes: 4097, ..Rules::DOCUMENT }, ..NONE },
     Fault { name: "one-newton-step-fewer", rules: Rules { newton_steps: 19, ..Rules::DOCUMENT }, ..NONE },
     Fault {

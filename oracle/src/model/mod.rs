@@ -33,6 +33,8 @@ pub struct Rules {
     pub last_of_equals: bool,
     /// The slack of rounding in the directional step, 2^-22.
     pub round_slack: f32,
+    /// The slack of coordinates in the directional step, 6.2e-7.
+    pub coordinate_slack: f32,
     /// The probes allowed, 4,096.
     pub probes: u32,
     /// The Newton steps, 20.
@@ -55,6 +57,7 @@ impl Rules {
         left_out: [None, None],
         last_of_equals: false,
         round_slack: 1.0 / 4_194_304.0,
+        coordinate_slack: 6.2e-7,
         probes: 4096,
         newton_steps: 20,
         least_window: 0.0,
