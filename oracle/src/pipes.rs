@@ -1,4 +1,4 @@
-//! A program under test over pipes: it gets calls in blocks, and each of its answers is held to what goes with the call.
+//! A program under test over pipes: it gets calls in blocks, and each answer is held to what goes with its call.
 
 use std::io::{Read, Write};
 use std::process::{Child, Command, Stdio};

@@ -1,5 +1,5 @@
-//! Planted faults: the model stands in for the program under test, with one thing wrong. The judge has to catch each, and
-//! the laws of the norm those that break one.
+//! Planted faults: the model stands in for the program under test, with one thing wrong. The judge has to catch each,
+//! and the laws of the norm those that break one.
 
 mod listed;
 mod norms;

@@ -51,7 +51,7 @@ impl Source {
         calls
     }
 
-    /// For each place of a function's arguments and each way of being outside there, a call in which all else is allowed.
+    /// For each place of a function's arguments and each way of being outside there, a call with all else allowed.
     pub fn outside(&mut self, function: Function) -> Vec<Call> {
         let mut calls = Vec::new();
         for place in 0..function.arguments() {

@@ -19,7 +19,7 @@ impl Source {
         (call, powers)
     }
 
-    /// Numbers of which the squared differences are seldom rounded away: small whole numbers of one unit, numbers of one
+    /// Numbers whose squared differences are seldom rounded away: small whole numbers of one unit, numbers of one
     /// exponent, coarse ones; some of them zero, some equal, and sometimes all columns alike.
     fn of_one_size(&mut self) -> Points {
         let exponent = self.between(-62, 19);
@@ -41,8 +41,8 @@ impl Source {
         x.map(|column| column.map(|n| n.max(-BOUND).min(BOUND)))
     }
 
-    /// The k of some powers 2^k: a small one up and one down, one of any size, and the one that brings the largest number
-    /// just below 2^20 or to it.
+    /// The k of some powers 2^k: a small one up and one down, one of any size, and the one that brings the largest
+    /// number to 2^20, or as near as it can.
     fn powers(&mut self, x: &Points) -> Vec<i32> {
         let largest = x.iter().flatten().fold(0.0f32, |most, n| most.max(n.abs()));
         let (exponent, digits) = ((largest.to_bits() >> 23) as i32 - 127, largest.to_bits() & 0x7f_ffff);

@@ -47,7 +47,7 @@ pub fn times(x: f32, k: i32) -> f32 {
     exactly(x, k) as f32
 }
 
-/// The product with 2^k itself, which a wider number has room for.
+/// The product with 2^k itself, for the same k: an f64 has room for it.
 pub fn exactly(x: f32, k: i32) -> f64 {
     f64::from(x) * power_of_two(k)
 }

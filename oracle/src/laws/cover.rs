@@ -1,4 +1,4 @@
-//! What a run of the laws met: each law by its kinds, and what law 4's condition is about.
+//! What a run of the laws met: each law by its kinds, and what the condition on powers of two is about.
 
 use super::condition::{cross, exactly, squares, Multiplied, Part};
 use crate::model::{Point, Points, Rules, BOUND};
@@ -114,7 +114,7 @@ impl Cover {
     }
 
     pub fn print(&self) {
-        println!("met:");
+        println!("met, in pairs or calls:");
         print(NAMES, &self.counts);
         let [(least, most), (least_of_any, most_of_any)] = self.powers;
         println!("k from {least} to {most} where the norm is above zero, from {least_of_any} to {most_of_any} in all");

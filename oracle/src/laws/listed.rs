@@ -10,11 +10,11 @@ use crate::words::Words;
 type Listed = (&'static str, &'static [i32]);
 
 const LISTED: [Listed; 9] = [
-    // a = 2^-39 less its 2^24-th part on one side, b = 2^-39 on the other: b - a is 2^-63, its square 2^-126. At k = -87 b
-    // becomes 2^-126, and so does a, rounded up: that is a normal number, and the difference is gone
+    // a = 2^-39 less its 2^24-th part on one side, b = 2^-39 on the other: b - a is 2^-63, its square 2^-126. At
+    // k = -87 b becomes 2^-126, and so does a, rounded up: that is a normal number, and the difference is gone
     ("2bffffff 0 0 2bffffff 0 0 2c000000 0 0 2c000000 0 0 2", &[59, -87]),
     ("2bffffff 0 0 2bffffff 0 0 2bffffff 0 0 2c000000 0 0 3", &[59, -87]),
-    // the least number whose square is normal, and the greatest number: the furthest that a norm above zero can be taken
+    // the least number whose square is normal, and the greatest number: a norm above zero can be taken no further
     ("20000000 0 0 0 0 0 0 0 0 0 0 0 2", &[83, 84, -1]),
     ("49800000 0 0 0 0 0 0 0 0 0 0 0 3", &[-83, -84, 1]),
     // 3 on one side: at k = -64 its square is normal; at k = -75 it is not, and is rounded; at k = -152 3 becomes zero
