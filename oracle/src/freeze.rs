@@ -61,7 +61,7 @@ fn sample() -> (Vec<Judged>, Tally) {
     }
     kept.extend(others);
     kept.truncate(CALLS);
-    let mut tally = Tally::new();
+    let mut tally = Tally::new(false);
     kept.iter().for_each(|judged| tally.note(judged));
     (kept, tally)
 }
@@ -83,8 +83,8 @@ fn bytes(kept: &[Judged]) -> (Vec<u8>, Vec<u8>) {
 pub fn freeze(folder: &Path, write: bool) -> bool {
     let (kept, tally) = sample();
     let missing = tally.missing();
-    if tally.differences() > 0 || !missing.is_empty() {
-        println!("the list would not do: {} differences; not met: {missing:?}", tally.differences());
+    if tally.differences.count() > 0 || !missing.is_empty() {
+        println!("the list would not do: {} differences; not met: {missing:?}", tally.differences.count());
         return false;
     }
     let (calls, answers) = bytes(&kept);

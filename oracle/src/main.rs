@@ -6,15 +6,18 @@ mod calls;
 mod compare;
 mod corners;
 mod cover;
+mod differences;
 mod examples;
 mod faults;
 mod freeze;
 mod functions;
 mod generate;
 mod judge;
+mod laws;
 mod model;
 mod named;
 mod outside;
+mod pipes;
 mod refusals;
 mod scenes;
 mod sides;
@@ -29,7 +32,10 @@ const USAGE: &str = "\
 oracle compare SEED CALLS ONLY [PROGRAM WORD..]
                               the program over pipes, held to the original and to the rules; with no program,
                               the model held to the original. ONLY is `all` or names of functions, with commas
-oracle faults SEED            the judge's own test, with planted faults
+oracle laws SEED PAIRS [PROGRAM WORD..]
+                              the norm of each pair held to that of the same pair in other orders, with other signs
+                              and times powers of two: the program's norms, the original's and the model's
+oracle faults SEED            the own test of the judge and of the laws, with planted faults
 oracle freeze FOLDER          writes the frozen list below FOLDER
 oracle frozen FOLDER          holds the frozen list below FOLDER to the one that freeze makes
 oracle ask FUNCTION WORD..    one call: the rules' answer and what the original does
@@ -50,6 +56,10 @@ fn main() -> ExitCode {
                 let only = if *only == "all" { Vec::new() } else { only.split(',').map(Function::named).collect() };
                 compare::report(&compare::Plan { seed, calls, only }, &args[4..])
             }
+            _ => usage(),
+        },
+        ["laws", seed, pairs, ..] => match (seed.parse(), pairs.parse()) {
+            (Ok(seed), Ok(pairs)) => laws::report(&laws::Plan { seed, pairs }, &args[3..]),
             _ => usage(),
         },
         ["faults", seed] => seed.parse().map_or_else(|_| usage(), faults::test),

@@ -1,10 +1,14 @@
 //! What a run met: calls and refusals of each function, kinds of safe times, branches, entries of the differences; and
 //! the differences that no entry has.
 
+use crate::calls::Call;
 use crate::cover;
+use crate::differences::Differences;
 use crate::functions::{Function, FUNCTIONS, MOST};
 use crate::judge::{Judged, Relation, ENTRIES};
+use crate::named::{print, unmet};
 use crate::outside::{only_outside, ways, WAYS};
+use crate::pipes::{Asked, Holder};
 use crate::refusals::{refusal_of, refusals, REFUSALS};
 use crate::sides::KINDS;
 use crate::words::{hex, Words};
@@ -17,13 +21,12 @@ pub struct Tally {
     /// by function, place and way
     outside: Vec<[[u64; WAYS.len()]; MOST]>,
     most_halvings: u32,
-    differences: u64,
-    /// how many differences are printed
-    shown: u64,
+    pub differences: Differences,
 }
 
 impl Tally {
-    pub fn new() -> Tally {
+    /// Nothing so far. Where `quiet` is set no difference will be printed.
+    pub fn new(quiet: bool) -> Tally {
         Tally {
             refused: [[0; REFUSALS]; FUNCTIONS.len()],
             kinds: [0; KINDS.len()],
@@ -31,14 +34,8 @@ impl Tally {
             entries: vec![0; ENTRIES.len()],
             outside: vec![[[0; WAYS.len()]; MOST]; FUNCTIONS.len()],
             most_halvings: 0,
-            differences: 0,
-            shown: 10,
+            differences: Differences::new(quiet),
         }
-    }
-
-    /// One that prints no difference.
-    pub fn quiet() -> Tally {
-        Tally { shown: 0, ..Tally::new() }
     }
 
     /// Counts a call, and its difference where the rules' answer is not the original's and no entry says why.
@@ -61,32 +58,9 @@ impl Tally {
         }
     }
 
-    /// Holds the program's answer to what is expected.
-    pub fn hold(&mut self, judged: &Judged, answer: &Words) {
-        if answer.as_slice() != judged.expected.as_slice() {
-            self.differs(judged, &format!("answered  {}", hex(answer.as_slice())));
-        }
-    }
-
     fn differs(&mut self, judged: &Judged, how: &str) {
-        self.differences += 1;
-        if self.differences <= self.shown {
-            println!("DIFFERENCE {}", judged.call.hex());
-            println!("  expected  {}", hex(judged.expected.as_slice()));
-            println!("  {how}");
-        }
-    }
-
-    /// Counts a failure of the program itself.
-    pub fn broke(&mut self, how: &str) {
-        if self.shown > 0 {
-            println!("the program under test {how}");
-        }
-        self.differences += 1;
-    }
-
-    pub fn differences(&self) -> u64 {
-        self.differences
+        let expected = hex(judged.expected.as_slice());
+        self.differences.add(|| format!("{}\n  expected  {expected}\n  {how}", judged.call.hex()));
     }
 
     pub fn calls(&self) -> u64 {
@@ -109,13 +83,9 @@ impl Tally {
                 }
             }
         }
-        let named = |names: &[&str], counts: &[u64]| -> Vec<String> {
-            let unmet = names.iter().zip(counts).filter(|(_, &count)| count == 0);
-            unmet.map(|(name, _)| name.to_string()).collect()
-        };
-        missing.extend(named(&KINDS, &self.kinds));
-        missing.extend(named(cover::NAMES, &self.branches));
-        missing.extend(named(ENTRIES, &self.entries));
+        missing.extend(unmet(&KINDS, &self.kinds));
+        missing.extend(unmet(cover::NAMES, &self.branches));
+        missing.extend(unmet(ENTRIES, &self.entries));
         for function in FUNCTIONS {
             for (place, way, count) in self.outside_of(function) {
                 if count == 0 {
@@ -145,12 +115,27 @@ impl Tally {
         let least = FUNCTIONS.iter().flat_map(|&function| self.outside_of(function)).map(|(_, _, count)| count).min();
         println!("each argument alone NaN, infinite, below and above its range: {} times or more", least.unwrap_or(0));
         println!("branches met, in calls:");
-        for (name, count) in cover::NAMES.iter().zip(&self.branches) {
-            println!("{count:>10} {name}");
-        }
+        print(cover::NAMES, &self.branches);
         println!("entries of docs/DIFFERENCES.md used:");
-        for (name, count) in ENTRIES.iter().zip(&self.entries) {
-            println!("{count:>10} {name}");
+        print(ENTRIES, &self.entries);
+    }
+}
+
+impl Asked for Judged {
+    fn call(&self) -> &Call {
+        &self.call
+    }
+}
+
+impl Holder<Judged> for Tally {
+    fn hold(&mut self, judged: &Judged, answer: &Words) {
+        self.note(judged);
+        if answer.as_slice() != judged.expected.as_slice() {
+            self.differs(judged, &format!("answered  {}", hex(answer.as_slice())));
         }
+    }
+
+    fn differences(&mut self) -> &mut Differences {
+        &mut self.differences
     }
 }

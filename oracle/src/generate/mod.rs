@@ -2,6 +2,7 @@
 //! three of the functions that are called seldom, with something that is not allowed.
 
 mod arguments;
+mod norms;
 mod numbers;
 mod pairs;
 mod polynomials;
@@ -15,7 +16,7 @@ use crate::calls::Call;
 use crate::functions::{Function, FUNCTIONS};
 use crate::outside::{allowed, just_outside, ways, Allowed};
 use crate::words::{Words, NAN};
-pub use numbers::neighbour;
+pub use numbers::{neighbour, power_of_two};
 
 /// How many of a thousand calls are of each function, in the order of their numbers.
 const SHARES: [u32; FUNCTIONS.len()] = [20, 10, 10, 20, 15, 65, 30, 110, 60, 500, 40, 120];
@@ -41,17 +42,23 @@ impl Source {
         call
     }
 
-    /// What every run asks, however short: the rare inputs, and for each function, each place of its arguments and each
-    /// way of being outside there, a call in which all else is allowed.
+    /// What every run asks, however short: the rare inputs, and for each function what is outside its ranges.
     pub fn listed(&mut self) -> Vec<Call> {
         let mut calls: Vec<Call> = rare::calls().collect();
         for function in FUNCTIONS {
-            for place in 0..function.arguments() {
-                for &way in ways(function, place) {
-                    let mut call = Call::new(function, self.allowed(function));
-                    call.arguments.set(place, just_outside(function, place, way));
-                    calls.push(call);
-                }
+            calls.extend(self.outside(function));
+        }
+        calls
+    }
+
+    /// For each place of a function's arguments and each way of being outside there, a call with all else allowed.
+    pub fn outside(&mut self, function: Function) -> Vec<Call> {
+        let mut calls = Vec::new();
+        for place in 0..function.arguments() {
+            for &way in ways(function, place) {
+                let mut call = Call::new(function, self.allowed(function));
+                call.arguments.set(place, just_outside(function, place, way));
+                calls.push(call);
             }
         }
         calls

@@ -17,7 +17,7 @@ impl Source {
         [f(self), f(self), f(self)]
     }
 
-    fn points(&mut self, mut f: impl FnMut(&mut Source) -> f32) -> Points {
+    pub fn points(&mut self, mut f: impl FnMut(&mut Source) -> f32) -> Points {
         [self.point(&mut f), self.point(&mut f), self.point(&mut f), self.point(&mut f)]
     }
 

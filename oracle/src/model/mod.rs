@@ -11,7 +11,8 @@ mod walk;
 pub type Point = [f32; 3];
 pub type Points = [Point; 4];
 
-pub use distance::Distance;
+pub use distance::{dot, Distance};
+pub use pair::squared_difference;
 pub use roots::{missing, Coefficients, Linear, Roots};
 pub use walk::{Kind, Limits};
 
@@ -32,6 +33,8 @@ pub struct Rules {
     pub last_of_equals: bool,
     /// The slack of rounding in the directional step, 2^-22.
     pub round_slack: f32,
+    /// The slack of coordinates in the directional step, 6.2e-7.
+    pub coordinate_slack: f32,
     /// The probes allowed, 4,096.
     pub probes: u32,
     /// The Newton steps, 20.
@@ -44,6 +47,8 @@ pub struct Rules {
     pub drops_repeated: bool,
     /// How many bits a square root is off, 0.
     pub root_off: u32,
+    /// What the norm makes of two columns of a pair.
+    pub of_columns: fn(&Points, usize, usize) -> f32,
 }
 
 impl Rules {
@@ -52,17 +57,19 @@ impl Rules {
         left_out: [None, None],
         last_of_equals: false,
         round_slack: 1.0 / 4_194_304.0,
+        coordinate_slack: 6.2e-7,
         probes: 4096,
         newton_steps: 20,
         least_window: 0.0,
         linear: Linear::TimesRange,
         drops_repeated: false,
         root_off: 0,
+        of_columns: squared_difference,
     };
 
-    /// The square root of a finite number not below zero, correctly rounded.
+    /// The square root of a number not below zero, correctly rounded; plus zero for an infinity.
     fn root(&self, x: f32) -> f32 {
-        if x == 0.0 {
+        if x == 0.0 || x.is_infinite() {
             0.0
         } else {
             f32::from_bits(x.sqrt().to_bits() + self.root_off)

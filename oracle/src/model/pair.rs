@@ -23,6 +23,12 @@ fn all_finite(x: &Points) -> bool {
     x.iter().flatten().all(|n| n.is_finite())
 }
 
+/// The squared difference of two columns.
+pub fn squared_difference(x: &Points, i: usize, j: usize) -> f32 {
+    let d = minus(x[i], x[j]);
+    dot(d, d)
+}
+
 /// a0 (b1 c2 - b2 c1) + a1 (b2 c0 - b0 c2) + a2 (b0 c1 - b1 c0)
 fn triple(a: Point, b: Point, c: Point) -> f32 {
     let part = |i: usize, j: usize, k: usize| a[i] * (b[j] * c[k] - b[k] * c[j]);
@@ -61,12 +67,12 @@ impl Rules {
         let mut largest = 0.0;
         for i in 0..split {
             for j in split..4 {
-                let d = minus(x[i], x[j]);
-                if largest < dot(d, d) {
+                let squared = (self.of_columns)(x, i, j);
+                if largest < squared {
                     if largest != 0.0 {
                         met(Branch::NormLater);
                     }
-                    largest = dot(d, d);
+                    largest = squared;
                 }
             }
         }

@@ -30,9 +30,6 @@ pub struct SafeTime {
     pub halvings: u32,
 }
 
-/// The slack of coordinates in the directional step.
-const COORDINATE_SLACK: f32 = 6.2e-7;
-
 /// A pair in motion and the distances that bound it.
 struct Walk<'a> {
     rules: &'a Rules,
@@ -140,7 +137,7 @@ impl Walk<'_> {
                 let gap = minus(x[j], x[i]);
                 let rel = minus(self.dx[i], self.dx[j]);
                 let reach = dot(sizes(w), sizes(gap)) + self.max_t * dot(sizes(w), sizes(rel)) + self.park * w_norm;
-                let err = self.rules.round_slack * reach + COORDINATE_SLACK * w_norm;
+                let err = self.rules.round_slack * reach + self.rules.coordinate_slack * w_norm;
                 let projected = dot(w, gap) - err;
                 if projected <= self.dip * w_norm {
                     met(Branch::DirectionStopped);

@@ -1,32 +1,30 @@
-//! Planted faults: the model stands in for the program under test, with one thing wrong. The judge has to catch each.
+//! The planted faults: a rule that is changed, or answers that are changed after it.
 
-use std::io::{Read, Write};
-
-use crate::calls::{decode, Call, BLOCK};
-use crate::compare;
+use super::norms;
+use crate::calls::Call;
 use crate::functions::Function;
-use crate::model::{Linear, Rules};
+use crate::laws::Law;
+use crate::model::{Linear, Points, Rules};
 use crate::refusals::refusal_of;
-use crate::sides::by_model;
 use crate::words::Words;
 
 /// A rule that is changed, or answers that are changed after it.
-struct Fault {
-    name: &'static str,
-    rules: Rules,
-    distort: fn(&Call, &mut Words),
+pub struct Fault {
+    pub name: &'static str,
+    pub rules: Rules,
+    pub distort: fn(&Call, &mut Words),
+    /// the laws of the norm that it breaks
+    pub breaks: &'static [Law],
 }
 
-const NONE: Fault = Fault { name: "none", rules: Rules::DOCUMENT, distort: |_, _| {} };
+pub const NONE: Fault = Fault { name: "none", rules: Rules::DOCUMENT, distort: |_, _| {}, breaks: &[] };
 
-/// The calls by which each fault has to be caught.
-const CALLS: u64 = 400_000;
-
-const FAULTS: [Fault; 16] = [
+pub const FAULTS: [Fault; 25] = [
     Fault { name: "interior-of-edges-left-out", rules: Rules { left_out: [Some(4), None], ..Rules::DOCUMENT }, ..NONE },
     Fault { name: "edge-of-face-left-out", rules: Rules { left_out: [None, Some(2)], ..Rules::DOCUMENT }, ..NONE },
     Fault { name: "last-of-equals", rules: Rules { last_of_equals: true, ..Rules::DOCUMENT }, ..NONE },
     Fault { name: "slack-halved", rules: Rules { round_slack: 1.0 / 8_388_608.0, ..Rules::DOCUMENT }, ..NONE },
+    Fault { name: "slack-left-out", rules: Rules { coordinate_slack: 0.0, ..Rules::DOCUMENT }, ..NONE },
     Fault { name: "one-probe-more", rules: Rules { probes: 4097, ..Rules::DOCUMENT }, ..NONE },
     Fault { name: "one-newton-step-fewer", rules: Rules { newton_steps: 19, ..Rules::DOCUMENT }, ..NONE },
     Fault {
@@ -43,7 +41,20 @@ const FAULTS: [Fault; 16] = [
     Fault { name: "last-halving-not-counted", distort: one_halving_fewer, ..NONE },
     Fault { name: "minus-zero-time", distort: minus_zero_time, ..NONE },
     Fault { name: "refused-pair-written", distort: refused_pair_written, ..NONE },
+    Fault { name: "norm-refused-by-column-0", distort: by_column_0, breaks: &[Law::Order, Law::Exchange], ..NONE },
+    of_norm("norm-of-column-0-alone", norms::column_0_alone, &[Law::Order, Law::Exchange]),
+    of_norm("norm-to-column-3-alone", norms::column_3_alone, &[Law::Order, Law::Exchange]),
+    of_norm("norm-of-columns-two-apart", norms::two_apart, &[Law::Order]),
+    of_norm("norm-of-the-first-side-larger", norms::first_larger, &[Law::Exchange]),
+    of_norm("norm-of-differences-above-zero", norms::above_zero, &[Law::Exchange, Law::Signs]),
+    of_norm("norm-of-sums-above-zero", norms::sum_above_zero, &[Law::Signs]),
+    of_norm("norm-with-a-slack", norms::with_slack, &[Law::Times]),
 ];
+
+/// A norm that makes something else of two columns.
+const fn of_norm(name: &'static str, of_columns: fn(&Points, usize, usize) -> f32, breaks: &'static [Law]) -> Fault {
+    Fault { name, rules: Rules { of_columns, ..Rules::DOCUMENT }, breaks, ..NONE }
+}
 
 fn renumber(answer: &mut Words, from: u32, to: u32) {
     if refusal_of(answer) == from {
@@ -72,49 +83,9 @@ fn refused_pair_written(call: &Call, answer: &mut Words) {
     }
 }
 
-/// Answers the stream on standard input as a program under test does, by the model with the named fault.
-pub fn stand_in(name: &str) {
-    let fault = FAULTS.iter().find(|fault| fault.name == name).unwrap_or(&NONE);
-    let (mut input, mut output) = (std::io::stdin().lock(), std::io::stdout().lock());
-    let mut block = Vec::new();
-    loop {
-        block.clear();
-        let got = (&mut input).take(BLOCK as u64).read_to_end(&mut block);
-        if !matches!(got, Ok(n) if n > 0) {
-            return;
-        }
-        let mut answers = Vec::new();
-        for call in decode(&block) {
-            let mut answer = by_model(&fault.rules, &call);
-            (fault.distort)(&call, &mut answer);
-            answers.extend(answer.as_slice().iter().flat_map(|word| word.to_le_bytes()));
-        }
-        if output.write_all(&answers).is_err() {
-            return;
-        }
+/// Tells a NaN or an infinity from a number beyond its range in column 0 alone.
+fn by_column_0(call: &Call, answer: &mut Words) {
+    if call.function == Function::MaxRelativeNorm && call.points("x")[0].iter().all(|n| n.is_finite()) {
+        renumber(answer, 1, 2);
     }
-}
-
-/// The judge's own test: no difference where nothing is wrong, and one for each fault. Answers whether all is well.
-pub fn test(seed: u64) -> bool {
-    let this = std::env::current_exe().expect("this program has a path");
-    let this = this.to_str().expect("its path is text").to_string();
-    let plan = compare::Plan { seed, calls: CALLS, only: Vec::new() };
-    let mut well = true;
-    for fault in std::iter::once(&NONE).chain(&FAULTS) {
-        let program = [this.clone(), "stand-in".to_string(), fault.name.to_string()];
-        let quiet = fault.name != NONE.name;
-        let tally = compare::run_program(&plan, &program, quiet, quiet);
-        let caught = tally.differences() > 0;
-        let right = caught == quiet;
-        let verdict = match (caught, right) {
-            (true, true) => format!("caught within {} calls", tally.calls()),
-            (false, true) => format!("no difference in {} calls", tally.calls()),
-            (true, false) => "a difference where nothing is wrong".to_string(),
-            (false, false) => format!("NOT CAUGHT in {} calls", tally.calls()),
-        };
-        println!("planted fault {}: {verdict}", fault.name);
-        well &= right;
-    }
-    well
 }

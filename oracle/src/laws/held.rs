@@ -1,0 +1,66 @@
+//! One side's answers, held to each other group by group.
+
+use super::condition::exactly;
+use super::group::{Member, LAWS};
+use crate::calls::Call;
+use crate::differences::Differences;
+use crate::functions::Function;
+use crate::pipes::Holder;
+use crate::refusals::refusal_of;
+use crate::words::{hex, Words};
+
+pub struct Held {
+    /// whose answers they are
+    whose: &'static str,
+    /// the pair itself and its answer
+    first: Option<(Call, Words)>,
+    calls: u64,
+    by_law: [u64; LAWS.len()],
+    pub differences: Differences,
+}
+
+impl Held {
+    pub fn new(whose: &'static str, quiet: bool) -> Held {
+        Held { whose, first: None, calls: 0, by_law: [0; LAWS.len()], differences: Differences::new(quiet) }
+    }
+
+    /// The laws that did not hold of all.
+    pub fn broken(&self) -> Vec<&'static str> {
+        LAWS.iter().zip(self.by_law).filter(|&(_, count)| count > 0).map(|(&law, _)| law).collect()
+    }
+
+    pub fn print(&self) {
+        println!("{:>10} answers of {}", self.calls, self.whose);
+    }
+}
+
+/// Whether a norm is the first one times 2^k, and a refusal the same: bit for bit, the sign of a zero too.
+fn stands(first: &Words, answer: &Words, k: i32) -> bool {
+    let norm = Function::MaxRelativeNorm.answer("norm").at;
+    let expected = exactly(first.number(norm), k);
+    refusal_of(answer) == refusal_of(first) && f64::from(answer.number(norm)).to_bits() == expected.to_bits()
+}
+
+impl Holder<Member> for Held {
+    fn hold(&mut self, member: &Member, answer: &Words) {
+        self.calls += 1;
+        let (law, (pair, first)) = match (member.law, &self.first) {
+            (Some(law), Some(first)) => (law, first),
+            _ => {
+                self.first = Some((member.call, *answer));
+                return;
+            }
+        };
+        if !stands(first, answer, member.k) {
+            self.by_law[law as usize] += 1;
+            let line = |call: &Call, answer: &Words| format!("{} gives {}", call.hex(), hex(answer.as_slice()));
+            let (pair, image) = (line(pair, first), line(&member.call, answer));
+            let Held { whose, differences, .. } = self;
+            differences.add(|| format!("{whose}: {}, k = {}\n  {pair}\n  {image}", LAWS[law as usize], member.k));
+        }
+    }
+
+    fn differences(&mut self) -> &mut Differences {
+        &mut self.differences
+    }
+}
