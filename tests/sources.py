@@ -5,9 +5,9 @@
 - Each public function has a must-fail edit: of its own lines, or of a function of its crate that it calls. The row of
   a function in STATEMENTS.md names edits of that kind, and each edit stands there.
 - README.md lists each file of definitions with its number of lines, and their sums.
-- Each definition of specs/ is reached from a public contract, or stands in Inner.antt and is reached from another one;
-  each law of proofs/ is cited, or stands in STATEMENTS.md, whose laws are there; each function is called; each import
-  is used.
+- Each definition of specs/ is reached from a public contract or from a theorem that STATEMENTS.md lists, or stands in
+  Inner.antt and is reached from another contract; each law of proofs/ is cited, or stands in STATEMENTS.md, whose laws
+  are there; each function is called; each import is used.
 - docs/CONTRIBUTING.md lists each file of laws, proofs/NAME.antt, once, and has each library crate in its drawing.
 - What follows from the table of the stream of calls, tests/calls.txt, stands as that has it (tests/calls_written.py).
 """
@@ -174,8 +174,21 @@ def reached_from(contracts, waiting):
         text = "\n".join(body for _, _, body in now)
 
 
+LAW = re.compile(rf"^ *(?:abbrev |unfoldable )?(?:pub )?(?P<name>{WORD}+) *(?:{{[^}}]*}} *)?: ", re.M)
+
+
+def theorems():
+    """What the laws that STATEMENTS.md lists say: each signature, to the line that proves it."""
+    for text in PROOFS.values():
+        for law in LAW.finditer(text):
+            if f"`{law['name']}`" in STATEMENTS:
+                proof = re.compile(rf"^ *{re.escape(law['name'])} ", re.M).search(text, law.end())
+                yield text[law.start(): proof.start() if proof else len(text)]
+
+
 def hold_definitions():
-    """What a public contract rests on stands in the files to be believed; what only inner functions say in Inner.antt."""
+    """What a public contract or a listed theorem rests on stands in the files to be believed; what only inner functions say
+    in Inner.antt."""
     public, all_contracts = [], []
     for path, text in SOURCES.items():
         for function in FUNCTION.finditer(text):
@@ -184,17 +197,17 @@ def hold_definitions():
                 public.append(all_contracts[-1])
     there = [(path, name, body) for path, text in SPECS.items() for name, body in definitions(text)]
     by_public = reached_from("\n".join(public), there)
+    by_theorem = reached_from("\n".join(theorems()), there)
     by_any = reached_from("\n".join(all_contracts), there)
     for path, name, body in there:
+        if path.stem != "Inner" and (path, name, body) in by_theorem:
+            continue
         if (path, name, body) not in by_any:
-            fault(name_of(path), f"no contract reaches {name}")
+            fault(name_of(path), f"no contract and no listed theorem reaches {name}")
         elif path.stem == "Inner" and (path, name, body) in by_public:
             fault(name_of(path), f"a public contract reaches {name}")
         elif path.stem != "Inner" and (path, name, body) not in by_public:
             fault(name_of(path), f"only contracts of inner functions reach {name}: it belongs into Inner.antt")
-
-
-LAW = re.compile(rf"^ *(?:abbrev |unfoldable )?(?:pub )?(?P<name>{WORD}+) *(?:{{[^}}]*}} *)?: ", re.M)
 
 
 def hold_laws():

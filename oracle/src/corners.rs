@@ -33,7 +33,19 @@ const SLIDING: &str = "maximum_safe_time_accurate 0 0 0 3f800000 0 0 0 0 3540000
 const DOUBLED: &str = "maximum_safe_time_accurate 0 0 0 40000000 0 0 0 0 35c00000 40000000 0 35c00000 \
     0 0 0 0 0 0 40000000 0 0 40000000 0 0 2 0 35800000 3f800000 40000000";
 
-const CORNERS: [Corner; 21] = [
+/// An edge at rest and one that passes by it, with the columns of the first in either order.
+macro_rules! passing {
+    ($first:literal) => {
+        concat!(
+            "maximum_safe_time_accurate ",
+            $first,
+            " 0 3f800000 bf800000 3f800000 0 40000000 0 0 0 0 0 0 c0000000 bf800000 0 c0000000 bf800000 0 ",
+            "2 0 3e800000 3f800000 400f1bbd"
+        )
+    };
+}
+
+const CORNERS: [Corner; 23] = [
     Corner { what: "the root of 0", call: "square_root 0", answer: "0 0" },
     Corner { what: "the root of 2.25", call: "square_root 40100000", answer: "0 3fc00000" },
     Corner { what: "the root of 2^-148", call: "square_root 2", answer: "0 1a800000" },
@@ -87,6 +99,8 @@ const CORNERS: [Corner; 21] = [
     Corner { what: "u_max just below 2^-60", call: strips!("3f800000 217fffff"), answer: "2 4 0 0 0" },
     Corner { what: "a pair that slides", call: SLIDING, answer: "0 3 3b000000 1000 0" },
     Corner { what: "its double", call: DOUBLED, answer: "0 2 3f800000 0 0" },
+    Corner { what: "passing by", call: passing!("bf800000 0 0 40000000 0 bf800000"), answer: "0 1 3ee575dd 2 10" },
+    Corner { what: "the same turned", call: passing!("40000000 0 bf800000 bf800000 0 0"), answer: "0 1 3ee575db 2 10" },
 ];
 
 /// The calls, for a run to begin with.

@@ -85,7 +85,6 @@ value-own (fin r m e) s u f v =
     sym (round-own r m e f) ∙ ap (λ (b : Bool). round binary32 b (m * up e) (down e)) (v .0)
     ∙ round-same binary32 s (m * up e) (down e) u L (down-pos e) (pow-pos 149) (v .1)
 
-
 -- ---- sums
 pub ltb-times : (a b p : ℕ) → 0 < p → ltb (a * p) (b * p) ≡ ltb a b
 ltb-times a b p P =

@@ -9,7 +9,7 @@ pub mod Refused
 pub mod Tested
 pub mod Multiplied
 pub mod Grid
-pub mod Plain
+pub mod Ordinary
 use Prim.Native.Nat.{ℕ, suc, _<_}
 use mathlib.Core.Path.{_≡_, sym, ap, _∙_, subst}
 use mathlib.Core.Bool.{Bool, true, _&&_}
@@ -27,7 +27,7 @@ use Rattle.admission.specs.Admission.{ofTwelve, finitePoints, boundedPoints, is
 use Rattle.admission.proofs.Admitted.{twelve-each, points-real}
 use Rattle.pair.specs.Points.{largestSquare, normOf}
 use Rattle.pair.specs.SamePair.{reordered, withinSides, exchanged, opposite, powerOf, exactCoordinate, exactGaps}
-use Rattle.pair.specs.SamePair.{ExactTimes, plainTimes}
+use Rattle.pair.specs.SamePair.{ExactTimes, ordinaryTimes}
 use Rattle.pair.proofs.Norms.{square-fits}
 use Rattle.pair.proofs.SamePair.Columns.{scaled-number}
 use Rattle.pair.proofs.SamePair.Reordered.{within-onto, reordered-norm}
@@ -35,7 +35,7 @@ use Rattle.pair.proofs.SamePair.Turned.{other, other-onto, exchanged-no
 use Rattle.pair.proofs.SamePair.Refused.{reordered-refusal, opposite-refusal}
 use Rattle.pair.proofs.SamePair.Tested.{ByPower, coordinate-times}
 use Rattle.pair.proofs.SamePair.Multiplied.{norm-times}
-use Rattle.pair.proofs.SamePair.Plain.{plain-times}
+use Rattle.pair.proofs.SamePair.Ordinary.{ordinary-times}
 
 -- ---- 1. the columns in another order within the sides, of any split
 pub norm-reordered : (x : List (List Float)) (split : ℕ) (order : ℕ → ℕ) → T (withinSides split order)
@@ -110,5 +110,5 @@ multiplied-admitted k x split e h =
     ∙ ap (refusal true) (is-true (boundedPoints y && isSplit split) ranged)
 
 -- so it is where each number is zero, or of size 2 ^ -40 to 2 ^ 20 before and after
-pub plain-multiplied : (k : ℤ) (x : List (List Float)) (split : ℕ) → T (ofTwelve (plainTimes k) x) → ExactTimes k x split
-plain-multiplied k x split h = plain-times k x h split
+pub ordinary-multiplied : (k : ℤ) (x : List (List Float)) (split : ℕ) → T (ofTwelve (ordinaryTimes k) x) → ExactTimes k x split
+ordinary-multiplied k x split h = ordinary-times k x h split

@@ -83,10 +83,10 @@ pub record ExactTimes (k : ℤ) (x : List (List Float)) (split : ℕ) : Type 0 w
   pub after : T (exactGaps (scaled x (powerOf k)) split)
   pub limits : T (boundedPoints (scaled x (powerOf k)))
 
--- an f32 of size 2 ^ -40 to 2 ^ 20
-unfoldable pub plain : Float → Bool
-plain c = fits binary32 c && between (ofBits binary32 0x2b80_0000) bound (size c)
+-- an f32 of ordinary size: 2 ^ -40 to 2 ^ 20
+unfoldable pub ordinary : Float → Bool
+ordinary c = fits binary32 c && between (ofBits binary32 0x2b80_0000) bound (size c)
 
--- a coordinate that is zero, or plain before and after: what is computed of such coordinates is exact
-unfoldable pub plainTimes : ℤ → Float → Bool
-plainTimes k c = isZero c || (plain c && plain (c ⊗ powerOf k))
+-- a coordinate that is zero, or of ordinary size before and after: what is computed of such coordinates is exact
+unfoldable pub ordinaryTimes : ℤ → Float → Bool
+ordinaryTimes k c = isZero c || (ordinary c && ordinary (c ⊗ powerOf k))

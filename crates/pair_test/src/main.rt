@@ -1,7 +1,9 @@
 // A test program: the corners of a pair's public calls, one a line (docs/01-scope.md, "Corners to check",
-// "Scaling a pair", "Refusal numbers"). The lines that it must write are the oracle's for the same calls (`oracle ask`,
-// docs/TESTING.md): what the model of the rules gives, and the original wherever it answers.
+// "Scaling a pair", "Refusal numbers"), and the same pair written otherwise. The lines that it must write are the
+// oracle's for the same calls (`oracle ask`, docs/TESTING.md): what the model of the rules gives, and the original
+// wherever it answers; norms of a NaN and of infinities, which a public call refuses, are 01-scope.md's rule.
 mod cases;
+mod otherwise;
 mod text;
 
 use admission::Limits;
@@ -133,4 +135,5 @@ fn main() {
     measures();
     calls();
     admissions();
+    otherwise::written(many(), nan(), infinity());
 }

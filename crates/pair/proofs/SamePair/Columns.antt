@@ -51,7 +51,7 @@ minusOf v = vec (neg (at v 0)) (neg (at v 1)) (neg (at v 2))
 pub gap-opposite : (a b : List Float) → gapOf (minusOf a) (minusOf b) ≡ gapOf a b
 gap-opposite a b =
     let same : (i : ℕ) → (neg (at a i) ⊖ neg (at b i)) ⊗ (neg (at a i) ⊖ neg (at b i))
-        ≡ (at a i ⊖ at b i) ⊗ (at a i ⊖ at b i) =
+    ≡ (at a i ⊖ at b i) ⊗ (at a i ⊖ at b i) =
     λ i. ap (λ (z : Float). z ⊗ z) (sub-opposite (at a i) (at b i)) ∙ square-turned (at a i) (at b i) in
     dot-same _ _ _ _ _ _ (same 0) (same 1) (same 2)
 

@@ -3,10 +3,10 @@
 use Prim.Native.Nat.{ℕ}
 use mathlib.Core.Path.{_≡_, refl, sym, ap, _∙_, subst}
 use mathlib.Core.Logic.{_⊎_, inl, inr}
-use mathlib.Core.Bool.{Bool, true, false, not, cond}
+use mathlib.Core.Bool.{Bool, true, false, cond}
 use mathlib.Core.List.{List}
 use lib.Dec.{T, not-T}
-use lib.Ieee.{Float, binary32, lt, ofBits}
+use lib.Ieee.{Float, lt, ofBits}
 use Rattle.number.specs.Number.{zero32, larger, rootOf}
 use Rattle.number.proofs.Units.{plus}
 use Rattle.number.proofs.Signs.{plus-up}

@@ -1,7 +1,7 @@
 -- Coordinates that are multiples of 2 ^ -63, at most 2 ^ 20 in size: so is a difference, and its square is zero or at least
 -- 2 ^ -126, so that all that the norm computes of them is a normal f32, or zero with no rounding. Assumes nothing.
 use Prim.Native.Nat.{ℕ, zero, suc, _+_, _*_, _^_, _≤_, _<_}
-use native.Mathlib.Nat.{le-trans, le-of-eq, eq-zero-or-pos, zero-mul, one-mul, mul-one, mul-le-mul, mul-le-mul-right}
+use native.Mathlib.Nat.{le-trans, le-of-eq, eq-zero-or-pos, zero-mul, one-mul, mul-le-mul, mul-le-mul-right}
 use native.Mathlib.Omega.{arith}
 use mathlib.Core.Path.{_≡_, refl, sym, ap, _∙_, subst}
 use mathlib.Core.Logic.{_⊎_, inl, inr}
@@ -25,7 +25,7 @@ use Rattle.number.proofs.Signed.{value-finite, value-size, value-neg, value-zer
 use Rattle.number.proofs.PowersOfTwo.Times.{rnd-whole, rnd-power}
 use Rattle.number.proofs.PowersOfTwo.Squares.{square-value}
 use Rattle.geometry.specs.Geometry.{at, col, minus, Cross}
-use Rattle.geometry.proofs.CrossPairs.{Crosses, pairs-keep}
+use Rattle.geometry.proofs.CrossPairs.{pairs-keep}
 use Rattle.admission.specs.Admission.{ofThree}
 use Rattle.admission.proofs.Admitted.{three-all}
 use Rattle.pair.specs.SamePair.{normal, isZero, normalOrZero, exactSquare, exactGap, exactGaps}
@@ -55,9 +55,6 @@ pub record Grid (a : ℕ) (x : Float) : Type 0 where
   pub steps : ℕ
   pub is : HasValue x sign (steps * 2 ^ 86) L
   pub within : Within a x
-
-grid-finite : (a : ℕ) (x : Float) → Grid a x → T (finite x)
-grid-finite a x g = within-finite a x (g .within)
 
 grid-sub : (x y : Float) → Grid 20 x → Grid 20 y → Grid 21 (x ⊖ y)
 unfolding sub

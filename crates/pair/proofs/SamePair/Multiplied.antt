@@ -2,7 +2,6 @@
 -- Assumes nothing.
 use Prim.Native.Nat.{ℕ, zero, suc, _+_, _<_}
 use native.Mathlib.Omega.{arith}
-use mathlib.Core.Path.{_≡_, subst}
 use mathlib.Core.Bool.{Bool, true, _&&_}
 use mathlib.Core.List.{List}
 use lib.Dec.{T, lit<}
@@ -13,7 +12,6 @@ use Rattle.number.specs.Number.{_⊕_, _⊖_, _⊗_, zero32, larger}
 use Rattle.number.proofs.Units.{plus}
 use Rattle.number.proofs.Signs.{square-plus, sum-plus}
 use Rattle.number.proofs.Largest.{larger-plus}
-use Rattle.number.proofs.Comparing.{all-four}
 use Rattle.number.proofs.PowersOfTwo.Times.{Times, zero-times, add-times, sub-times, larger-times}
 use Rattle.number.proofs.PowersOfTwo.Squares.{square-times}
 use Rattle.number.proofs.SquareRoot.Multiplied.{root-times}

@@ -2,15 +2,15 @@
 -- (`ExactTimes`): such a coordinate is a multiple of 2 ^ -63. Assumes nothing.
 use Prim.Native.Nat.{ℕ, _*_, _^_, _≤_, _<_}
 use native.Mathlib.Nat.{le-trans, lt-of-lt-of-le, zero-mul}
-use mathlib.Core.Path.{_≡_, refl, sym, ap, _∙_, subst}
+use mathlib.Core.Path.{_≡_, sym, ap, _∙_, subst}
 use mathlib.Core.Logic.{_⊎_, inl, inr}
-use mathlib.Core.Bool.{Bool, _&&_, _||_}
+use mathlib.Core.Bool.{Bool, _&&_}
 use mathlib.Core.List.{List}
 use lib.Dec.{T, eqb, lit<, lit≤}
 use lib.IntN.{ℤ}
 use lib.Ieee.{Float, nan, inf, fin, binary32, up, down, le, fits, ofBits}
 use lib.Ieee.Exact.{HasValue}
-use lib.Ieee.Fits.{and-i, and-l, and-r, eq→eqb, mul-fits}
+use lib.Ieee.Fits.{and-i, and-l, and-r, eq→eqb}
 use lib.Ieee.Scale.{finite}
 use Rattle.number.specs.Number.{_⊗_, size, bound, inBound, unitsOf}
 use Rattle.number.proofs.Rounding.{rnd, rep-grid}
@@ -27,8 +27,8 @@ use Rattle.geometry.specs.Geometry.{at, col, scaled}
 use Rattle.geometry.proofs.Bounds.{Each}
 use Rattle.admission.specs.Admission.{ofTwelve, boundedPoints}
 use Rattle.admission.proofs.Admitted.{twelve-each, twelve-all}
-use Rattle.pair.specs.SamePair.{powerOf, normal, isZero, normalOrZero, exactCoordinate, ExactTimes, plain}
-use Rattle.pair.specs.SamePair.{plainTimes}
+use Rattle.pair.specs.SamePair.{powerOf, normal, isZero, normalOrZero, exactCoordinate, ExactTimes, ordinary}
+use Rattle.pair.specs.SamePair.{ordinaryTimes}
 use Rattle.pair.proofs.SamePair.Columns.{scaled-number}
 use Rattle.pair.proofs.SamePair.Grid.{Grid, grid-gaps, value-normal}
 
@@ -38,8 +38,8 @@ bound-finite nan t = t
 bound-finite (inf s) t = t
 bound-finite (fin s m e) t = tt
 
--- ---- the units of a plain number
-record Plain (c : Float) : Type 0 where
+-- ---- the units of a number of ordinary size
+record Ordinary (c : Float) : Type 0 where
   sign : Bool
   units : ℕ
   is : HasValue c sign units L
@@ -47,9 +47,9 @@ record Plain (c : Float) : Type 0 where
   low : 2 ^ 109 ≤ units
   high : units ≤ 2 ^ 20 * L
 
-plain-is : (c : Float) → T (plain c) → Plain c
-unfolding plain
-plain-is c h =
+ordinary-is : (c : Float) → T (ordinary c) → Ordinary c
+unfolding ordinary
+ordinary-is c h =
     let least = ofBits binary32 0x2b80_0000 in
     let a = le least (size c) in
     let b = le (size c) bound in
@@ -66,8 +66,8 @@ plain-is c h =
       high = le-says (size c) bound u (2 ^ 20 * L) (value-size c s u v) bound-is m;
     }
 
-plain-grid : (c : Float) → Plain c → Grid 20 c
-plain-grid c p =
+ordinary-grid : (c : Float) → Ordinary c → Grid 20 c
+ordinary-grid c p =
     let (w, e) = rep-grid (p .units) 86 (value-rep c (p .sign) (p .units) (p .fit) (p .is)) (p .low) in
     record {
       sign = p .sign;
@@ -81,9 +81,9 @@ zero-grid c z =
     let (s, v) = zero-value c z in
     record { sign = s; steps = 0; is = v; within = value-within 20 s c 0 (lit≤ tt) v }
 
-plain-normal : (c : Float) → Plain c → T (normalOrZero c)
+ordinary-normal : (c : Float) → Ordinary c → T (normalOrZero c)
 unfolding normalOrZero
-plain-normal c p =
+ordinary-normal c p =
     or-l (normal c) (isZero c)
     (value-normal c (p .sign) (p .units) (p .fit) (p .is) (le-trans (lit≤ {m = 2 ^ 23} tt) (p .low)))
 
@@ -110,46 +110,46 @@ module _ (k : ℤ) (c : Float) where
       (ap (λ (n : ℕ). n * down k) (value-units y r 0 w) ∙ zero-mul (down k)
       ∙ sym (ap (λ (n : ℕ). n * up k) (value-units c s 0 v) ∙ zero-mul (up k)))
 
-  plain-exact : Plain c → Plain y → T (exactCoordinate k c)
-  plain-exact p q =
+  ordinary-exact : Ordinary c → Ordinary y → T (exactCoordinate k c)
+  ordinary-exact p q =
       let u = p .units in
       let w = rnd (u * up k) (down k) in
       let v = product-value k c (p .sign) u (p .is) (value-finite y (q .sign) (q .units) (q .is)) in
       let e : w ≡ q .units = sym (value-units y (p .sign) w v) ∙ value-units y (q .sign) (q .units) (q .is) in
-      three (plain-normal c p) (plain-normal y q)
+      three (ordinary-normal c p) (ordinary-normal y q)
       (ap (λ (n : ℕ). n * down k) (value-units y (p .sign) w v)
       ∙ product-exact k u (value-rep c (p .sign) u (p .fit) (p .is))
       (lt-of-lt-of-le (lit< {m = 2 ^ 23} tt) (subst (λ (n : ℕ). 2 ^ 109 ≤ n) (sym e) (q .low)))
       ∙ ap (λ (n : ℕ). n * up k) (sym (value-units c (p .sign) u (p .is))))
 
-  cases : T (plainTimes k c) → T (isZero c) ⊎ (Plain c × Plain y)
-  unfolding plainTimes
-  cases h = elim (or-cases (isZero c) (plain c && plain y) h) [
+  cases : T (ordinaryTimes k c) → T (isZero c) ⊎ (Ordinary c × Ordinary y)
+  unfolding ordinaryTimes
+  cases h = elim (or-cases (isZero c) (ordinary c && ordinary y) h) [
     | inl z ↦ inl z
-    | inr p ↦ inr (plain-is c (and-l (plain c) (plain y) p), plain-is y (and-r (plain c) (plain y) p))
+    | inr p ↦ inr (ordinary-is c (and-l (ordinary c) (ordinary y) p), ordinary-is y (and-r (ordinary c) (ordinary y) p))
   ]
 
-  exact-of : T (plainTimes k c) → T (exactCoordinate k c)
-  exact-of h = elim (cases h) [ inl z ↦ zero-exact z | inr p ↦ plain-exact (p .0) (p .1) ]
+  exact-of : T (ordinaryTimes k c) → T (exactCoordinate k c)
+  exact-of h = elim (cases h) [ inl z ↦ zero-exact z | inr p ↦ ordinary-exact (p .0) (p .1) ]
 
-  grid-of : T (plainTimes k c) → Grid 20 c × Grid 20 y
+  grid-of : T (ordinaryTimes k c) → Grid 20 c × Grid 20 y
   grid-of h = elim (cases h) [
     | inl z ↦ (zero-grid c z, zero-grid y (zero-product z))
-    | inr p ↦ (plain-grid c (p .0), plain-grid y (p .1))
+    | inr p ↦ (ordinary-grid c (p .0), ordinary-grid y (p .1))
   ]
 
 -- ---- all of them
-module _ (k : ℤ) (x : List (List Float)) (h : T (ofTwelve (plainTimes k) x)) where
-  each : Each (plainTimes k) x
-  each = twelve-each (plainTimes k) x h
+module _ (k : ℤ) (x : List (List Float)) (h : T (ofTwelve (ordinaryTimes k) x)) where
+  each : Each (ordinaryTimes k) x
+  each = twelve-each (ordinaryTimes k) x h
 
   product-grid : (i j : ℕ) → i < 4 → j < 3 → Grid 20 (at (col (scaled x (powerOf k)) i) j)
   product-grid i j m l =
       subst (Grid 20) (sym (scaled-number x (powerOf k) i j m l)) (grid-of k (at (col x i) j) (each i j m l) .1)
 
-  pub plain-times : (split : ℕ) → ExactTimes k x split
+  pub ordinary-times : (split : ℕ) → ExactTimes k x split
   unfolding boundedPoints
-  plain-times split = record {
+  ordinary-times split = record {
     coordinates = twelve-all (exactCoordinate k) x (λ i j m l. exact-of k (at (col x i) j) (each i j m l));
     before = grid-gaps x (λ i j m l. grid-of k (at (col x i) j) (each i j m l) .0) split;
     after = grid-gaps (scaled x (powerOf k)) product-grid split;
