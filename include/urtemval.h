@@ -226,7 +226,8 @@ UrtemvalDistance urtemval_squared_distance(const UrtemvalPoints *x, size_t split
 
 /*
  * The largest distance between a point before the split and a point from it on. Of displacements it is the greatest
- * relative speed: u_max of a safe time, where it is not below 2^-60 (of a pair at rest it is 0).
+ * relative speed: u_max of a safe time, where it is not below 2^-60 (of a pair at rest it is 0). It is the same with the
+ * points of a side in any order, with both edges exchanged, and with the sign of every number changed.
  *
  * Refusals: 1 some number is NaN or an infinity; 2 one lies beyond its range, or the split is neither 2 nor 3.
  */

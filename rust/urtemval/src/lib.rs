@@ -274,7 +274,8 @@ pub fn squared_distance(x: &Points, split: Split) -> Result<Distance, Refusal> {
 }
 
 /// The largest distance between a point of the first side and a point of the second. Of displacements it is the
-/// greatest relative speed, right for `u_max` where it is not below [`LEAST_U_MAX`].
+/// greatest relative speed, right for `u_max` where it is not below [`LEAST_U_MAX`]. It is the same with the points of
+/// a side in any order, with both edges exchanged, and with the sign of every number changed.
 ///
 /// # Errors
 ///
