@@ -159,7 +159,8 @@ within-bound (fin s m e) h = go s
         (refl, refl) (le-trans (le-of-eq (mul-one (m * up e))) h)
 
     go : (s : Bool) → T (inBound (fin s m e))
-    go false = and-i (le (minus-power 20) (fin false m e)) (le (fin false m e) (power 20)) (minus-plus 1 (pos 20) m e) under
+    go false =
+        and-i (le (minus-power 20) (fin false m e)) (le (fin false m e) (power 20)) (minus-plus 1 (pos 20) m e) under
     go true =
         and-i (le (minus-power 20) (fin true m e)) (le (fin true m e) (power 20)) (turned m e 1 (pos 20) under)
         (minus-plus m e 1 (pos 20))

@@ -1,5 +1,5 @@
--- A finite f32 of either sign as a sign and a whole number of units of 2 ^ -149 (`HasValue x s u L`): what is rounded, and
--- sums, of units. Assumes nothing.
+-- A finite f32 of either sign as a sign and a whole number of units of 2 ^ -149 (`HasValue x s u L`): what is rounded,
+-- and sums, of units. Assumes nothing.
 use mathlib.Core.Path.{_≡_, refl, sym, ap, _∙_, subst}
 use mathlib.Core.Bool.{Bool, true, false, not, _||_, Bool·beq}
 use Prim.Native.Nat.{ℕ, _+_, _-_, _*_, _/_, _^_, _≤_, _<_}
@@ -55,7 +55,8 @@ value-neg (fin r m e) s u v = (ap not (v .0), v .1)
 pub zero-value : (x : Float) → T (eq x zero32) → (s : Bool) × HasValue x s 0 L
 unfolding eq ofBits
 zero-value (fin s m e) h =
-    (s, (refl, none m (up e) (down e) L (eqb→eq (m * up e * 1) (0 * down e) (and-l (eqb (m * up e * 1) (0 * down e)) _ h))))
+    let z = eqb→eq (m * up e * 1) (0 * down e) (and-l (eqb (m * up e * 1) (0 * down e)) _ h) in
+    (s, (refl, none m (up e) (down e) L z))
   where
     none : (m a d l : ℕ) → m * a * 1 ≡ 0 * d → m * a * l ≡ 0 * d
     none m a d l e = omega (arith, ap (λ (n : ℕ). n * l) e)
@@ -64,8 +65,8 @@ pub value-zero : (x : Float) (s : Bool) → HasValue x s 0 L → T (eq x zero32)
 unfolding eq ofBits
 value-zero (fin r m e) s v =
     let z : m * up e * 1 ≡ 0 = none m (up e) (none-of m (up e) L (up-pos e) (pow-pos 149) (v .1 ∙ zero-mul (down e))) in
-    and-i (eqb (m * up e * 1) (0 * down e)) (Bool·beq r false || eqb (m * up e * 1) 0) (eq→eqb (z ∙ sym (zero-mul (down e))))
-    (or-r (Bool·beq r false) (eqb (m * up e * 1) 0) (eq→eqb z))
+    and-i (eqb (m * up e * 1) (0 * down e)) (Bool·beq r false || eqb (m * up e * 1) 0)
+    (eq→eqb (z ∙ sym (zero-mul (down e)))) (or-r (Bool·beq r false) (eqb (m * up e * 1) 0) (eq→eqb z))
   where
     none : (m a : ℕ) → m ≡ 0 → m * a * 1 ≡ 0
     none m a e = omega (arith, ap (λ (n : ℕ). n * a) e)
@@ -162,7 +163,8 @@ sum-over s a r b c p C P =
     regroup n c p = omega arith
 
 -- of numbers that are so many units
-pub add-units : (x y : Float) (s r : Bool) (u v : ℕ) → HasValue x s u L → HasValue y r v L → x ⊕ y ≡ sum binary32 s u r v L
+pub add-units : (x y : Float) (s r : Bool) (u v : ℕ) → HasValue x s u L → HasValue y r v L
+    → x ⊕ y ≡ sum binary32 s u r v L
 add-units (fin s' m e) (fin r' n d) s r u v p q =
     let A = m * up e * down d in
     let B = n * up d * down e in

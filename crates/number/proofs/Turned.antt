@@ -1,5 +1,5 @@
--- Sums and differences turned round, of every two floats, NaN and infinities included: a sum is the same in either order,
--- a difference changes its sign alone, so its square is the same. Assumes nothing.
+-- Sums and differences turned round, of every two floats, NaN and infinities included: a sum is the same in either
+-- order, a difference changes its sign alone, so its square is the same. Assumes nothing.
 use mathlib.Core.Path.{_≡_, refl, sym, ap, _∙_}
 use Prim.Native.Nat.{ℕ, zero, suc, _+_, _-_, _*_, _^_, _≤_, _<_}
 use native.Mathlib.Nat.{mul-comm, add-comm}

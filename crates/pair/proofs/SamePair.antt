@@ -1,6 +1,6 @@
--- Theorems of the norm, of every four points, split and order (docs/01-scope.md, "The same pair, written otherwise"). The same
--- pair written otherwise (specs/SamePair.antt) has the same norm, whatever its numbers are, NaN and infinities included,
--- and is refused alike. Multiplied by a power of two, exactly, it has its norm multiplied. Assumes nothing.
+-- Theorems of the norm (docs/01-scope.md, "The same pair, written otherwise"). The same pair written otherwise
+-- (specs/SamePair.antt) has the same norm, whatever its numbers are, NaN and infinities included, and is refused alike.
+-- Multiplied by a power of two, exactly, it has its norm multiplied, exactly. Assumes nothing.
 pub mod Covered
 pub mod Columns
 pub mod Reordered
@@ -10,30 +10,30 @@ pub mod Tested
 pub mod Multiplied
 pub mod Grid
 pub mod Ordinary
-use Prim.Native.Nat.{ℕ, suc, _<_}
+use Prim.Native.Nat.{ℕ, suc, _*_, _<_}
 use mathlib.Core.Path.{_≡_, sym, ap, _∙_, subst}
 use mathlib.Core.Bool.{Bool, true, _&&_}
 use mathlib.Core.List.{List, [], _∷_}
 use lib.{Dec.T, ListN.getD}
 use lib.IntN.{ℤ, pos, negsuc}
-use lib.Ieee.{Float, binary32, fits}
+use lib.Ieee.{Float, binary32, up, down, fits}
 use lib.Ieee.Bits.{is-true}
 use lib.Ieee.Fits.{and-i}
-use Rattle.number.specs.Number.{_⊗_, refusal}
+use Rattle.number.specs.Number.{_⊗_, refusal, unitsOf}
 use Rattle.number.proofs.SquareRoot.Bounds.{root-from-zero}
 use Rattle.number.proofs.PowersOfTwo.Products.{times-up, times-down}
 use Rattle.geometry.specs.Geometry.{at, col, scaled}
 use Rattle.admission.specs.Admission.{ofTwelve, finitePoints, boundedPoints, isSplit, splitRefusal}
 use Rattle.admission.proofs.Admitted.{twelve-each, points-real}
 use Rattle.pair.specs.Points.{largestSquare, normOf}
-use Rattle.pair.specs.SamePair.{reordered, withinSides, exchanged, opposite, powerOf, exactCoordinate, exactGaps}
-use Rattle.pair.specs.SamePair.{ExactTimes, ordinaryTimes}
+use Rattle.pair.specs.SamePair.{reordered, withinSides, exchanged, opposite, powerOf, exactCoordinate, ExactTimes}
+use Rattle.pair.specs.SamePair.{ordinaryTimes}
 use Rattle.pair.proofs.Norms.{square-fits}
 use Rattle.pair.proofs.SamePair.Columns.{scaled-number}
 use Rattle.pair.proofs.SamePair.Reordered.{within-onto, reordered-norm}
 use Rattle.pair.proofs.SamePair.Turned.{other, other-onto, exchanged-norm, opposite-norm}
 use Rattle.pair.proofs.SamePair.Refused.{reordered-refusal, opposite-refusal}
-use Rattle.pair.proofs.SamePair.Tested.{ByPower, coordinate-times}
+use Rattle.pair.proofs.SamePair.Tested.{ByPower, coordinate-times, units-by}
 use Rattle.pair.proofs.SamePair.Multiplied.{norm-times}
 use Rattle.pair.proofs.SamePair.Ordinary.{ordinary-times}
 
@@ -79,25 +79,34 @@ norm-fits : (x : List (List Float)) (split : ℕ) → T (fits binary32 (normOf x
 unfolding normOf
 norm-fits x split = root-from-zero (largestSquare x split) (square-fits x split) .fit
 
+number-times : (k : ℤ) (x : List (List Float)) (split : ℕ) → ExactTimes k x split → (i j : ℕ) → i < 4 → j < 3
+    → ByPower k (at (col x i) j) (at (col (scaled x (powerOf k)) i) j)
+number-times k x split e i j m l =
+    subst (ByPower k (at (col x i) j)) (sym (scaled-number x (powerOf k) i j m l))
+    (coordinate-times k (at (col x i) j) (twelve-each (exactCoordinate k) x (e .coordinates) i j m l))
+
+norm-by : (k : ℤ) (x : List (List Float)) (split : ℕ) → ExactTimes k x split
+    → ByPower k (normOf x split) (normOf (scaled x (powerOf k)) split)
+norm-by (pos t) x split e =
+    norm-times t x (scaled x (powerOf (pos t))) split (number-times (pos t) x split e) (e .before) (e .after)
+norm-by (negsuc n) x split e =
+    norm-times (suc n) (scaled x (powerOf (negsuc n))) x split (number-times (negsuc n) x split e) (e .after)
+    (e .before)
+
 pub norm-multiplied : (k : ℤ) (x : List (List Float)) (split : ℕ) → ExactTimes k x split
     → normOf (scaled x (powerOf k)) split ≡ normOf x split ⊗ powerOf k
-norm-multiplied k x split e = go k (e .before) (e .after) (λ i j m l. number k e i j m l)
+norm-multiplied k x split e =
+    let y = scaled x (powerOf k) in
+    go k (normOf x split) (normOf y split) (norm-fits y split) (norm-by k x split e)
   where
-    number : (k : ℤ) → ExactTimes k x split → (i j : ℕ) → i < 4 → j < 3
-        → ByPower k (at (col x i) j) (at (col (scaled x (powerOf k)) i) j)
-    number k e i j m l =
-        subst (ByPower k (at (col x i) j)) (sym (scaled-number x (powerOf k) i j m l))
-        (coordinate-times k (at (col x i) j) (twelve-each (exactCoordinate k) x (e .coordinates) i j m l))
+    go : (k : ℤ) (m n : Float) → T (fits binary32 n) → ByPower k m n → n ≡ m ⊗ powerOf k
+    go (pos t) m n f h = sym (times-up t m n h f)
+    go (negsuc p) m n f h = sym (times-down p n m h f)
 
-    go : (k : ℤ) → T (exactGaps x split) → T (exactGaps (scaled x (powerOf k)) split)
-        → ((i j : ℕ) → i < 4 → j < 3 → ByPower k (at (col x i) j) (at (col (scaled x (powerOf k)) i) j))
-        → normOf (scaled x (powerOf k)) split ≡ normOf x split ⊗ powerOf k
-    go (pos t) a b h =
-        let y = scaled x (powerOf (pos t)) in
-        sym (times-up t (normOf x split) (normOf y split) (norm-times t x y split h a b) (norm-fits y split))
-    go (negsuc n) a b h =
-        let y = scaled x (powerOf (negsuc n)) in
-        sym (times-down n (normOf y split) (normOf x split) (norm-times (suc n) y x split h b a) (norm-fits y split))
+-- the product is not rounded: in units it is 2 ^ k times the norm
+pub norm-unrounded : (k : ℤ) (x : List (List Float)) (split : ℕ) → ExactTimes k x split
+    → unitsOf (normOf (scaled x (powerOf k)) split) * down k ≡ unitsOf (normOf x split) * up k
+norm-unrounded k x split e = units-by k (normOf x split) (normOf (scaled x (powerOf k)) split) (norm-by k x split e)
 
 pub multiplied-admitted : (k : ℤ) (x : List (List Float)) (split : ℕ) → ExactTimes k x split → T (isSplit split)
     → splitRefusal (scaled x (powerOf k)) split ≡ 0
@@ -110,5 +119,6 @@ multiplied-admitted k x split e h =
     ∙ ap (refusal true) (is-true (boundedPoints y && isSplit split) ranged)
 
 -- so it is where each number is zero, or of size 2 ^ -40 to 2 ^ 20 before and after
-pub ordinary-multiplied : (k : ℤ) (x : List (List Float)) (split : ℕ) → T (ofTwelve (ordinaryTimes k) x) → ExactTimes k x split
+pub ordinary-multiplied : (k : ℤ) (x : List (List Float)) (split : ℕ) → T (ofTwelve (ordinaryTimes k) x)
+    → ExactTimes k x split
 ordinary-multiplied k x split h = ordinary-times k x h split

@@ -1,6 +1,6 @@
--- The same pair written otherwise, with the same norm, or with one multiplied (docs/01-scope.md, "The same pair, written
--- otherwise"): columns in another order, edges exchanged, signs changed, every number times a power of two. Theorems of
--- the norm cite it, and no contract. Definitions only.
+-- The same pair written otherwise, with the same norm, or with one multiplied (docs/01-scope.md, "The same pair,
+-- written otherwise"): columns in another order, edges exchanged, signs changed, every number times a power of two.
+-- Theorems of the norm cite it, and no contract. Definitions only.
 use Prim.Native.Nat.{ℕ, _+_, _*_, _%_}
 use mathlib.Core.Bool.{Bool, true, false, _&&_, _||_, Bool·beq}
 use mathlib.Core.List.{List, foldl}

@@ -1,5 +1,6 @@
-// The same pair written otherwise (docs/01-scope.md, "The same pair, written otherwise"): a line has the norm of the pair,
-// then that of the pair in another order, with its edges exchanged, with all signs changed, or times a power of two.
+// The same pair written otherwise (docs/01-scope.md, "The same pair, written otherwise"): a line has the norm of the
+// pair, then that of the pair in another order, with its edges exchanged, with all signs changed, or times a power of
+// two.
 use super::text;
 use pair::norm;
 use pair::points;

@@ -21,8 +21,8 @@ named! {
     }
 }
 
-/// A call of a group: the pair itself, or what a law makes of it. Its norm is the pair's own times 2^k, where k is 0 but
-/// under `Times`.
+/// A call of a group: the pair itself, or what a law makes of it. Its norm is the pair's own times 2^k, where k is 0
+/// but under `Times`.
 pub struct Member {
     pub call: Call,
     pub law: Option<Law>,

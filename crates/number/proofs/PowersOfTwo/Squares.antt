@@ -67,7 +67,8 @@ square-large u r h = inr (le-of-not-lt (λ (l : u * u < 2 ^ 23 * L).
         go (yes g) =
             let (w, e) = rep-grid u 62 r g in
             let few : w < 2 ^ 24 =
-            lt-of-mul-lt-mul-right (2 ^ 62) (lt-of-le-of-lt (le-of-eq (sym e)) (lt-of-lt-of-le below (lit≤ {m = 2 ^ 86} tt)))
+            lt-of-mul-lt-mul-right (2 ^ 62)
+            (lt-of-le-of-lt (le-of-eq (sym e)) (lt-of-lt-of-le below (lit≤ {m = 2 ^ 86} tt)))
             in
             le-trans (le-of-eq e) (mul-le-mul-right (2 ^ 62) (le-of-suc-le-suc few))
         go (no g) = le-trans (le-of-lt (lt-of-not-le g)) (lit≤ {m = 2 ^ 85} tt)
@@ -75,8 +76,8 @@ square-large u r h = inr (le-of-not-lt (λ (l : u * u < 2 ^ 23 * L).
     small : u ≤ most → rnd (u * u) L ≤ rnd (most * most) L
     small g = rnd-mono (u * u) L (most * most) L (pow-pos 149) (pow-pos 149) (mul-le-mul-right L (mul-le-mul g g))
 
-pub square-times : (t : ℕ) (x y : Float) (p : Times t x y) → Squared (p .units) → T (finite (x ⊗ x)) → T (finite (y ⊗ y))
-    → Times (t + t) (x ⊗ x) (y ⊗ y)
+pub square-times : (t : ℕ) (x y : Float) (p : Times t x y) → Squared (p .units) → T (finite (x ⊗ x))
+    → T (finite (y ⊗ y)) → Times (t + t) (x ⊗ x) (y ⊗ y)
 square-times t x y p h f g =
     let u = p .units in
     let n = u * u in

@@ -1,6 +1,6 @@
--- `Times t x y`: y is 2 ^ t times x, exactly. Sums, differences and the larger of two are multiplied with their numbers. A
--- sum needs only to stay finite: in units of 2 ^ -149 the exact one is whole, so what is rounded off is multiplied, too.
--- Assumes nothing.
+-- `Times t x y`: y is 2 ^ t times x, exactly. Sums, differences and the larger of two are multiplied with their
+-- numbers. A sum needs only to stay finite: in units of 2 ^ -149 the exact one is whole, so what is rounded off is
+-- multiplied, too. Assumes nothing.
 use mathlib.Core.Path.{_≡_, refl, sym, ap, _∙_, subst}
 use mathlib.Core.Bool.{Bool, true, false, not, cond}
 use Prim.Native.Nat.{ℕ, _*_, _^_, _≤_, _<_}
@@ -51,8 +51,8 @@ zero-times t = record {
   large = (refl, sym (mul-one (0 * 2 ^ t) ∙ zero-mul (2 ^ t)));
 }
 
-round-times : (t : ℕ) (s : Bool) (n : ℕ) → T (finite (round binary32 s n L)) → T (finite (round binary32 s (n * 2 ^ t) L))
-    → Times t (round binary32 s n L) (round binary32 s (n * 2 ^ t) L)
+round-times : (t : ℕ) (s : Bool) (n : ℕ) → T (finite (round binary32 s n L))
+    → T (finite (round binary32 s (n * 2 ^ t) L)) → Times t (round binary32 s n L) (round binary32 s (n * 2 ^ t) L)
 round-times t s n f g = record {
   sign = s;
   units = rnd n 1;
@@ -92,8 +92,8 @@ unfolding sub
 sub-times t x x' y y' p q f g = add-times t x x' (neg y) (neg y') p (neg-times t y y' q) f g
 
 -- ---- the larger of two of sign plus
-lt-times : (t : ℕ) (x x' y y' : Float) → Times t x x' → Times t y y' → T (plus x) → T (plus y) → T (plus x') → T (plus y')
-    → lt x' y' ≡ lt x y
+lt-times : (t : ℕ) (x x' y y' : Float) → Times t x x' → Times t y y' → T (plus x) → T (plus y) → T (plus x')
+    → T (plus y') → lt x' y' ≡ lt x y
 lt-times t x x' y y' p q h k h' k' =
     let u = p .units in
     let v = q .units in

@@ -1,5 +1,5 @@
--- A number multiplied by the square of a power of two has a root multiplied by that power, exactly: its digits are the same
--- and its exponent is even where it was. Assumes nothing.
+-- A number multiplied by the square of a power of two has a root multiplied by that power, exactly: its digits are the
+-- same, and its exponent is even where it was. Assumes nothing.
 use mathlib.Core.Path.{_≡_, refl, sym, ap, _∙_, subst}
 use mathlib.Core.Logic.{inl, inr}
 use mathlib.Core.Bool.{false}
@@ -69,7 +69,9 @@ module _ (t p k b : ℕ) (low : 2 ^ 23 ≤ p) (high : p < 2 ^ 24) (short : k + (
         sign = false;
         units = val b;
         small = bits-plus b (omega (arith, l));
-        large = subst (λ (n : ℕ). HasValue (ofBits binary32 pattern) false n L) val-times (bits-plus pattern (omega (arith, m)));
+        large =
+            subst (λ (n : ℕ). HasValue (ofBits binary32 pattern) false n L) val-times
+            (bits-plus pattern (omega (arith, m)));
       }
 
   root-later : (y : Float) → unitsOf y * L ≡ p * 2 ^ (k + (t + t) + 125) → T (lt zero32 y) → T (isFinite y)

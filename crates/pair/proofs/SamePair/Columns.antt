@@ -1,5 +1,5 @@
--- The columns of points that are written otherwise, and the square of two columns: the same turned round, and the same with
--- all signs changed. Assumes nothing.
+-- The columns of points that are written otherwise, and the square of two columns: the same turned round, and the same
+-- with all signs changed. Assumes nothing.
 use Prim.Native.Nat.{ℕ, zero, suc, _<_}
 use native.Mathlib.Omega.{arith}
 use mathlib.Core.Path.{_≡_, refl, ap, _∙_}

@@ -25,8 +25,8 @@ module _ (x : List (List Float)) (split : ℕ) where
   above : (p : Cross) → Crosses split p → NotBelow (gapSquare x p) (largestSquare x split)
   unfolding largestSquare
   above p c =
-      pairs-reach (NotBelow (gapSquare x p)) turn (λ most q h. larger-stays most (gapSquare x q) (gapSquare x p) h) split p c
-      (λ most. larger-reaches most (gapSquare x p)) zero32
+      pairs-reach (NotBelow (gapSquare x p)) turn (λ most q h. larger-stays most (gapSquare x q) (gapSquare x p) h)
+      split p c (λ most. larger-reaches most (gapSquare x p)) zero32
 
   -- it is zero, or one of them
   abbrev One : Float → Type 0
@@ -43,7 +43,8 @@ module _ (x : List (List Float)) (split : ℕ) where
   square-plus : T (plus (largestSquare x split))
   unfolding largestSquare ofBits
   square-plus =
-      pairs-keep (λ (most : Float). T (plus most)) turn split (λ most p c h. larger-plus most (gapSquare x p) h) zero32 tt
+      pairs-keep (λ (most : Float). T (plus most)) turn split (λ most p c h. larger-plus most (gapSquare x p) h)
+      zero32 tt
 
 -- ---- two lists of points
 -- every square of x is one of y's

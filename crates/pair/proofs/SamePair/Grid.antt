@@ -1,5 +1,5 @@
--- Coordinates that are multiples of 2 ^ -63, at most 2 ^ 20 in size: so is a difference, and its square is zero or at least
--- 2 ^ -126, so that all that the norm computes of them is a normal f32, or zero with no rounding. Assumes nothing.
+-- Coordinates that are multiples of 2 ^ -63, at most 2 ^ 20 in size: so is a difference, and its square is zero or at
+-- least 2 ^ -126, so that all that the norm computes of them is a normal f32, or zero with no rounding. Assumes nothing.
 use Prim.Native.Nat.{ℕ, zero, suc, _+_, _*_, _^_, _≤_, _<_}
 use native.Mathlib.Nat.{le-trans, le-of-eq, eq-zero-or-pos, zero-mul, one-mul, mul-le-mul, mul-le-mul-right}
 use native.Mathlib.Omega.{arith}

@@ -1,5 +1,5 @@
--- Every number of a pair times 2 ^ t, exactly, and what the norm computes of both exact: the norm is multiplied by 2 ^ t.
--- Assumes nothing.
+-- Every number of a pair times 2 ^ t, exactly, and what the norm computes of both exact: the norm is multiplied by
+-- 2 ^ t. Assumes nothing.
 use Prim.Native.Nat.{ℕ, zero, suc, _+_, _<_}
 use native.Mathlib.Omega.{arith}
 use mathlib.Core.Bool.{Bool, true, _&&_}
@@ -25,15 +25,19 @@ use Rattle.pair.proofs.Norms.{square-fits}
 use Rattle.pair.proofs.SamePair.Tested.{settled-finite, square-finite, square-squared}
 
 -- ---- the tests of a cross pair
-each-gap : (x : List (List Float)) (split : ℕ) → T (exactGaps x split) → (p : Cross) → Crosses split p → T (exactGap x p)
+each-gap : (x : List (List Float)) (split : ℕ) → T (exactGaps x split) → (p : Cross) → Crosses split p
+    → T (exactGap x p)
 unfolding exactGaps
 each-gap x split h p c =
     pairs-reach (λ (so : Bool). T so → T (exactGap x p)) (λ (so : Bool) (q : Cross). so && exactGap x q)
     (λ so q k t. k (and-l so (exactGap x q) t)) split p c (λ so t. and-r so (exactGap x p) t) true h
 
 module _ (x : List (List Float)) (p : Cross) (h : T (exactGap x p)) where
+  abbrev gaps : List Float
+  gaps = minus (col x (p .first)) (col x (p .second))
+
   abbrev gap : ℕ → Float
-  gap i = at (minus (col x (p .first)) (col x (p .second))) i
+  gap i = at gaps i
 
   abbrev square : ℕ → Float
   square i = gap i ⊗ gap i
@@ -41,31 +45,28 @@ module _ (x : List (List Float)) (p : Cross) (h : T (exactGap x p)) where
   abbrev two : Float
   two = square 0 ⊕ square 1
 
-  parts : T (ofThree normalOrZero (minus (col x (p .first)) (col x (p .second))))
-      × T (ofThree exactSquare (minus (col x (p .first)) (col x (p .second))))
-      × T (normalOrZero two) × T (normalOrZero (two ⊕ square 2))
+  parts : T (ofThree normalOrZero gaps) × T (ofThree exactSquare gaps) × T (normalOrZero two)
+      × T (normalOrZero (two ⊕ square 2))
   unfolding exactGap
   parts =
-      let v = minus (col x (p .first)) (col x (p .second)) in
-      let a = ofThree normalOrZero v in
-      let b = ofThree exactSquare v in
+      let a = ofThree normalOrZero gaps in
+      let b = ofThree exactSquare gaps in
       let c = normalOrZero two in
       let d = normalOrZero (two ⊕ square 2) in
       let sums = and-r (a && b) (c && d) h in
       (and-l a b (and-l (a && b) (c && d) h), and-r a b (and-l (a && b) (c && d) h), and-l c d sums, and-r c d sums)
 
   gap-finite : (i : ℕ) → i < 3 → T (finite (gap i))
-  gap-finite i l = settled-finite (gap i) (three-each normalOrZero (minus (col x (p .first)) (col x (p .second))) (parts .0) i l)
+  gap-finite i l = settled-finite (gap i) (three-each normalOrZero gaps (parts .0) i l)
 
   gap-square : (i : ℕ) → i < 3 → T (exactSquare (gap i))
-  gap-square i l = three-each exactSquare (minus (col x (p .first)) (col x (p .second))) (parts .1) i l
+  gap-square i l = three-each exactSquare gaps (parts .1) i l
 
   gap-plus : T (plus (gapSquare x p))
   unfolding gapSquare
   gap-plus =
-      sum-plus two (square 2)
-      (sum-plus (square 0) (square 1) (square-plus (gap 0) (gap-finite 0 (lit< tt))) (square-plus (gap 1) (gap-finite 1 (lit< tt))))
-      (square-plus (gap 2) (gap-finite 2 (lit< tt)))
+      let each : (i : ℕ) → i < 3 → T (plus (square i)) = λ i l. square-plus (gap i) (gap-finite i l) in
+      sum-plus two (square 2) (sum-plus (square 0) (square 1) (each 0 (lit< tt)) (each 1 (lit< tt))) (each 2 (lit< tt))
 
 -- ---- y is 2 ^ t times x
 module _ (t : ℕ) (x y : List (List Float)) (split : ℕ)
@@ -91,7 +92,8 @@ module _ (t : ℕ) (x y : List (List Float)) (split : ℕ)
         (square-finite d u) (square-finite e v)
 
     one : (i : ℕ) → i < 3 → Times (t + t) (square x p k i) (square y p l i)
-    one zero m = at-place 0 m (gap-finite x p k 0 m) (gap-finite y p l 0 m) (gap-square x p k 0 m) (gap-square y p l 0 m)
+    one zero m =
+        at-place 0 m (gap-finite x p k 0 m) (gap-finite y p l 0 m) (gap-square x p k 0 m) (gap-square y p l 0 m)
     one (suc zero) m =
         at-place 1 m (gap-finite x p k 1 m) (gap-finite y p l 1 m) (gap-square x p k 1 m) (gap-square y p l 1 m)
     one (suc (suc zero)) m =
@@ -113,8 +115,8 @@ module _ (t : ℕ) (x y : List (List Float)) (split : ℕ)
   largest-times : Both (largestSquare x split) (largestSquare y split)
   unfolding largestSquare ofBits
   largest-times =
-      pairs-match Both (λ (m : Float) (p : Cross). larger m (gapSquare x p)) (λ (n : Float) (p : Cross). larger n (gapSquare y p))
-      split (λ m n p c (q, h, k).
+      pairs-match Both (λ (m : Float) (p : Cross). larger m (gapSquare x p))
+      (λ (n : Float) (p : Cross). larger n (gapSquare y p)) split (λ m n p c (q, h, k).
       let f = gap-plus x p (each-gap x split a p c) in
       let g = gap-plus y p (each-gap y split b p c) in (
         larger-times (t + t) m n (gapSquare x p) (gapSquare y p) q (gap-times p c) h f k g,

@@ -1,4 +1,5 @@
--- Columns in another order within the sides: each cross pair goes to a cross pair, and each comes from one. Assumes nothing.
+-- Columns in another order within the sides: each cross pair goes to a cross pair, and each comes from one. Assumes
+-- nothing.
 use Prim.Native.Nat.{ℕ, zero, suc, _≤_, _<_}
 use native.Mathlib.Nat.{not-le-of-lt}
 use native.Mathlib.Omega.{arith}
@@ -60,7 +61,7 @@ module _ (split : ℕ) (order : ℕ → ℕ) (h : T (withinSides split order)) w
 
   pub within-onto : Onto order
   within-onto = record {
-    there = λ i l. ltb→lt (order i) 4 (and-l (ltb (order i) 4) (Bool·beq (ltb i split) (ltb (order i) split)) (good i l .0));
+    there = λ i l. ltb→lt (order i) 4 (and-l (ltb (order i) 4) _ (good i l .0));
     place = λ i l. stands-at order i (good i l .1);
   }
 

@@ -1,5 +1,5 @@
--- What the tests of an exact multiplication (specs/SamePair.antt) tell of a number: its units, that it is finite, that its
--- square can be multiplied. Assumes nothing.
+-- What the tests of an exact multiplication (specs/SamePair.antt) tell of a number: its units, that it is finite, that
+-- its square can be multiplied. Assumes nothing.
 use Prim.Native.Nat.{ℕ, suc, _*_, _^_, _≤_}
 use native.Mathlib.Nat.{mul-one}
 use mathlib.Core.Path.{_≡_, sym, ap, _∙_, subst}
@@ -37,7 +37,8 @@ module _ (x : Float) (h : T (normal x)) where
 
   -- in units it is 2 ^ 23 at least
   normal-large : (s : Bool) (u : ℕ) → HasValue x s u L → 2 ^ 23 ≤ u
-  normal-large s u v = le-says least (size x) (2 ^ 23) u (bits-are 0x0080_0000 (lit< tt)) (value-size x s u v) (parts .2)
+  normal-large s u v =
+      le-says least (size x) (2 ^ 23) u (bits-are 0x0080_0000 (lit< tt)) (value-size x s u v) (parts .2)
 
 zero-within : (x : Float) → T (isZero x) → Within 0 x
 zero-within x h = let (s, v) = zero-value x h in value-within 0 s x 0 (lit≤ tt) v
@@ -80,6 +81,14 @@ module _ (d : Float) (h : T (exactSquare d)) where
 abbrev pub ByPower : ℤ → Float → Float → Type 0
 ByPower (pos t) c y = Times t c y
 ByPower (negsuc n) c y = Times (suc n) y c
+
+pub units-by : (k : ℤ) (x y : Float) → ByPower k x y → unitsOf y * down k ≡ unitsOf x * up k
+units-by (pos t) x y p =
+    mul-one (unitsOf y) ∙ value-units y (p .sign) (p .units * 2 ^ t) (p .large)
+    ∙ ap (λ (n : ℕ). n * 2 ^ t) (sym (value-units x (p .sign) (p .units) (p .small)))
+units-by (negsuc n) x y p =
+    ap (λ (m : ℕ). m * 2 ^ suc n) (value-units y (p .sign) (p .units) (p .small))
+    ∙ sym (mul-one (unitsOf x) ∙ value-units x (p .sign) (p .units * 2 ^ suc n) (p .large))
 
 pub coordinate-times : (k : ℤ) (c : Float) → T (exactCoordinate k c) → ByPower k c (c ⊗ powerOf k)
 unfolding exactCoordinate

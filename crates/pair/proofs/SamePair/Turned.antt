@@ -1,4 +1,5 @@
--- Both edges exchanged, and all signs changed: each cross pair has the square of one of the pair's own. Assumes nothing.
+-- Both edges exchanged, and all signs changed: each cross pair has the square of one of the pair's own. Assumes
+-- nothing.
 use Prim.Native.Nat.{ℕ, _+_, _%_, _<_}
 use native.Mathlib.Omega.{arith}
 use mathlib.Core.Path.{_≡_, sym, ap, _∙_}
