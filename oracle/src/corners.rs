@@ -99,8 +99,8 @@ const CORNERS: [Corner; 23] = [
     Corner { what: "u_max just below 2^-60", call: strips!("3f800000 217fffff"), answer: "2 4 0 0 0" },
     Corner { what: "a pair that slides", call: SLIDING, answer: "0 3 3b000000 1000 0" },
     Corner { what: "its double", call: DOUBLED, answer: "0 2 3f800000 0 0" },
-    Corner { what: "passing by", call: passing!("bf800000 0 0 40000000 0 bf800000"), answer: "0 1 3ee575dd 2 10" },
-    Corner { what: "the same turned", call: passing!("40000000 0 bf800000 bf800000 0 0"), answer: "0 1 3ee575db 2 10" },
+    Corner { what: "passing by", call: passing!("bf800000 0 0 40000000 0 bf800000"), answer: "0 1 3ee575dd 2 16" },
+    Corner { what: "the same turned", call: passing!("40000000 0 bf800000 bf800000 0 0"), answer: "0 1 3ee575db 2 16" },
 ];
 
 /// The calls, for a run to begin with.
