@@ -1,7 +1,7 @@
 -- What an admitted call stands on: its limits, the squared distances of its points at every time from 0 to 1, and the
 -- start, which is time 0. Assumes nothing.
 use mathlib.Core.List.{List}
-use Prim.Native.Nat.{ℕ, _<_}
+use Prim.Native.Nat.{ℕ}
 use lib.Dec.{T, lit≤}
 use lib.Ieee.{Float, binary32, le, fits, ofBits}
 use lib.Ieee.Fits.{and-i}
@@ -9,6 +9,7 @@ use Rattle.number.specs.Number.{zero32, one32}
 use Rattle.number.proofs.Ranges.{zero-to-one}
 use Rattle.number.proofs.Within.{within-finite, within-more}
 use Rattle.geometry.specs.Geometry.{at, col, moved}
+use Rattle.geometry.proofs.Handed.{PointsFit}
 use Rattle.geometry.proofs.Bounds.{PointsWithin, moved-within}
 use Rattle.distance.specs.Distance.{nearestOf}
 use Rattle.distance.proofs.Measured.{nearest-measured}
@@ -22,7 +23,7 @@ use Rattle.ccd3.proofs.Standing.{Ground}
 
 -- each number that is handed over is an f32
 pub record Fitting (x : List (List Float)) (l : Limits) : Type 0 where
-  pub points : (i j : ℕ) → i < 4 → j < 3 → T (fits binary32 (at (col x i) j))
+  pub points : PointsFit x
   pub offset : T (fits binary32 (l .offset))
   pub clearance : T (fits binary32 (l .clearance))
   pub max-t : T (fits binary32 (l .«max_t»))

@@ -9,7 +9,7 @@ pub mod Kept
 pub mod Threshold
 pub mod Admitted
 pub mod Promises
-mod Handed
+
 mod Tables
 mod HalvingLoop
 mod WalkLoop

@@ -88,3 +88,9 @@ module _ (n : ℕ) (v : Float) where
   pub clauses : (r : Answered) → r ≡ answered n v
       → (r ≡ answered n v) × ((refusalOf r ≡ n) × (valueOf r ≡ admitted n v zero32))
   clauses r e = (e, (ap refusalOf e ∙ refusal-is, ap valueOf e ∙ value-is))
+
+  -- what an answer that is no refusal was made with
+  pub given-value : (r : Answered) → r ≡ answered n v → refusalOf r ≡ 0 → (n ≡ 0) × (valueOf r ≡ v)
+  given-value r e z =
+      let none : n ≡ 0 = sym (ap refusalOf e ∙ refusal-is) ∙ z in
+      (none, ap valueOf e ∙ value-is ∙ sym (taken v zero32 n n refl none))

@@ -6,6 +6,7 @@ pub mod Rounding
 pub mod Units
 pub mod Sums
 pub mod Products
+pub mod Errors
 pub mod Plus
 pub mod Middle
 pub mod Patterns

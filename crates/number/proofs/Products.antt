@@ -2,7 +2,7 @@
 -- computed square is above the exact one. Assumes nothing.
 use mathlib.Core.Path.{_≡_, refl, sym, ap, _∙_, subst}
 use mathlib.Core.Bool.{Bool, true, false}
-use Prim.Native.Nat.{ℕ, suc, _+_, _*_, _^_, _≤_, _<_}
+use Prim.Native.Nat.{ℕ, suc, _+_, _-_, _*_, _^_, _≤_, _<_}
 use native.Mathlib.Nat.{le-trans, le-of-eq, le-of-lt, lt-of-not-le, lt-of-lt-of-le, lt-of-mul-lt-mul-right}
 use native.Mathlib.Nat.{le-of-suc-le-suc, suc-mul, not-le-of-lt, zero-mul, mul-zero, mul-assoc, mul-mul-mul-comm}
 use native.Mathlib.Nat.{mul-pos, mul-le-mul-right}
@@ -95,14 +95,15 @@ above-square p d u v i j h t =
     not-le-of-lt l (le-trans (le-of-eq (sym (rnd-fix v L (pow-pos 149) (j .rep))))
     (rnd-mono (v * L) L (u * u) L (pow-pos 149) (pow-pos 149) (mul-le-mul-right L k))))
 
--- ---- a correctly rounded root: R is q * 2 ^ k with q of 24 digits, and the exact root of n is above it by at most a
--- half of 2 ^ k
+-- ---- a correctly rounded root: R is q * 2 ^ k with q of 24 digits, and the exact root of n is off by at most a half
+-- of 2 ^ k
 pub record Root (n R : ℕ) : Type 0 where
   pub k : ℕ
   pub q : ℕ
   pub is : R ≡ q * 2 ^ k
   pub digits : 2 ^ 23 ≤ q
   pub low : n * 4 ≤ (R * 2 + 2 ^ k) * (R * 2 + 2 ^ k)
+  pub high : (R * 2 - 2 ^ k) * (R * 2 - 2 ^ k) ≤ n * 4
 
 -- a value whose square is at most n is at most the root
 pub root-above : (n R w : ℕ) → Root n R → Rep w → w * w ≤ n → w ≤ R

@@ -1,7 +1,7 @@
 -- Single-precision numbers (docs/01-scope.md, opening, "Number helpers", "The numbers allowed", "Refusal numbers",
 -- "Square root and norm", "The walk"). Each operation is rounded once, to nearest even. Definitions only.
 use Prim.Native.Nat.{ℕ, zero, suc, _-_, _+_, _*_, _/_, _%_, _^_}
-use mathlib.Core.Bool.{Bool, true, false, cond, _&&_, _||_}
+use mathlib.Core.Bool.{Bool, true, false, cond, _&&_, _||_, Bool·beq}
 use lib.Dec.{eqb, ltb}
 use lib.Ieee.{Float, nan, inf, fin, binary32, add, sub, mul, div, lt, le, eq, neg, toBits, ofBits, up, down}
 use Rattle.number.specs.declared.answer.Answered.{Answered, the-variants.Value, the-variants.Refused}
@@ -99,8 +99,11 @@ abbrev pub aboveZeroToOne : Float → Bool
 aboveZeroToOne x = lt zero32 x && le x one32
 
 -- u_max: 2 ^ -60 to 2 ^ 60
+abbrev pub leastSpeed : Float
+leastSpeed = ofBits binary32 0x2180_0000
+
 abbrev pub speedRange : Float → Bool
-speedRange x = between (ofBits binary32 0x2180_0000) (ofBits binary32 0x5d80_0000) x
+speedRange x = between leastSpeed (ofBits binary32 0x5d80_0000) x
 
 -- ---- what a call answers
 -- 1 where some number is not finite, else 2 where something lies beyond its range, else 0: admitted
@@ -124,12 +127,26 @@ valueOf (Refused n) = zero32
 unfoldable pub answered : ℕ → Float → Answered
 answered n v = admitted n (Value v) (Refused n)
 
--- ---- the square root: the f32 nearest to the exact root, ties to even, found by comparing whole-number squares
--- the size of a finite number, counted in the smallest f32 above zero, 2 ^ -149
+-- ---- whole numbers: a finite number is a sign and a number of units, the smallest f32 above zero, 2 ^ -149
 unfoldable pub unitsOf : Float → ℕ
 unitsOf nan = 0
 unitsOf (inf s) = 0
 unitsOf (fin s m e) = m * up e * 2 ^ 149 / down e
+
+unfoldable pub isMinus : Float → Bool
+isMinus nan = false
+isMinus (inf s) = s
+isMinus (fin s m e) = s
+
+-- how far u units of one sign are from v units of another, or of the same
+abbrev pub unitsApart : Bool → ℕ → Bool → ℕ → ℕ
+unitsApart s u r v = cond (Bool·beq s r) (u - v + (v - u)) (u + v)
+
+-- the exact distance of two finite numbers, in units
+unfoldable pub apart : Float → Float → ℕ
+apart a b = unitsApart (isMinus a) (unitsOf a) (isMinus b) (unitsOf b)
+
+-- ---- the square root: the f32 nearest to the exact root, ties to even, found by comparing whole-number squares
 
 -- twice the middle between the f32 of pattern b - 1 and the one of pattern b
 unfoldable pub twiceMiddle : ℕ → ℕ

@@ -1,26 +1,27 @@
 -- The norm of any four points has the sign plus, so it is not below zero; of points within the bound it is at most
--- 2 ^ 22. Assumes nothing.
+-- 2 ^ 23. Assumes nothing.
 use Prim.Native.Nat.{ℕ, _<_}
 use native.Mathlib.Omega.{arith}
-use mathlib.Core.Path.{_≡_, sym, subst}
+use mathlib.Core.Path.{_≡_, ap, subst}
+use mathlib.Core.Bool.{Bool, true, false, cond}
 use mathlib.Core.List.{List}
 use lib.Dec.{T, lit≤, lit<}
-use lib.Ieee.{Float, binary32, le, fits, ofBits}
+use lib.Ieee.{Float, binary32, lt, le, fits, ofBits}
 use lib.Ieee.Bits.{ofBits-fits}
 use lib.Ieee.Fits.{add-fits}
-use Rattle.number.specs.Number.{_⊖_, zero32, larger, isFinite, refusalOf, valueOf, admitted, answered}
-use Rattle.number.specs.declared.answer.Answered.{Answered}
+use Rattle.number.specs.Number.{_⊖_, _⊗_, zero32, larger, leastSpeed, isFinite, admitted}
 use Rattle.number.proofs.Units.{plus}
-use Rattle.number.proofs.Within.{Within, sub-within, dot-within}
-use Rattle.number.proofs.Signs.{plus-up}
+use Rattle.number.proofs.Within.{Within, within-more, sub-within, mul-within, dot-within}
+use Rattle.number.proofs.Signs.{plus-up, product-plus}
 use Rattle.number.proofs.Choice.{larger-keeps}
-use Rattle.number.proofs.Answers.{admitted-keeps, clauses}
+use Rattle.number.proofs.Answers.{admitted-keeps}
+use Rattle.number.proofs.SquareRoot.Theorem.{FromZero}
 use Rattle.number.proofs.SquareRoot.Bounds.{root-from-zero, root-within}
 use Rattle.geometry.proofs.CrossPairs.{pairs-keep}
 use Rattle.geometry.specs.Geometry.{at, col, Cross}
-use Rattle.pair.specs.Points.{gapSquare, largestSquare, normOf}
+use Rattle.pair.specs.Points.{gapSquare, largestSquare, sourceNorm, upward, raised, normOf}
 use Rattle.admission.specs.Admission.{boundedPoints, splitRefusal}
-use Rattle.number.proofs.Finite.{within-real}
+use Rattle.number.proofs.Finite.{is-finite, within-real}
 use Rattle.admission.proofs.Admitted.{points-within, split-admits}
 
 -- what zero has and every cross pair's square, the largest square has
@@ -37,12 +38,42 @@ square-fits x split =
     square-keeps (λ (y : Float). T (fits binary32 y)) x split (ofBits-fits binary32 0)
     (λ p i j. add-fits binary32 _ _)
 
+pub source-from : (x : List (List Float)) (split : ℕ) → FromZero (sourceNorm x split)
+unfolding sourceNorm
+source-from x split = root-from-zero (largestSquare x split) (square-fits x split)
+
+-- ---- raised
+pub raised-small : (n : Float) → lt n leastSpeed ≡ true → raised n ≡ n
+unfolding raised
+raised-small n e = ap (λ (b : Bool). cond b n (n ⊗ upward)) e
+
+pub raised-large : (n : Float) → lt n leastSpeed ≡ false → raised n ≡ n ⊗ upward
+unfolding raised
+raised-large n e = ap (λ (b : Bool). cond b n (n ⊗ upward)) e
+
+-- it has what the number has and the product
+raised-keeps : (P : Float → Type 0) (n : Float) → P n → P (n ⊗ upward) → P (raised n)
+unfolding raised
+raised-keeps P n p q = go (lt n leastSpeed)
+  where
+    go : (b : Bool) → P (cond b n (n ⊗ upward))
+    go true = p
+    go false = q
+
 pub norm-plus : (x : List (List Float)) (split : ℕ) → T (plus (normOf x split))
-unfolding normOf
-norm-plus x split = root-from-zero (largestSquare x split) (square-fits x split) .sign
+unfolding normOf ofBits
+norm-plus x split =
+    let n = sourceNorm x split in
+    let s = source-from x split in
+    raised-keeps (λ (y : Float). T (plus y)) n (s .sign)
+    (product-plus n upward (subst T (is-finite n) (s .real)) tt (s .sign) tt)
 
 pub norm-up : (x : List (List Float)) (split : ℕ) → T (le zero32 (normOf x split))
 norm-up x split = plus-up (normOf x split) (norm-plus x split)
+
+upward-within : Within 1 upward
+unfolding ofBits
+upward-within = lit≤ tt
 
 module _ (x : List (List Float)) (h : T (boundedPoints x)) where
   gap-within : (p : Cross) → p .first < 4 → p .second < 4 → Within 44 (gapSquare x p)
@@ -64,29 +95,27 @@ module _ (x : List (List Float)) (h : T (boundedPoints x)) where
   unfolding ofBits
   square-within split = square-keeps (Within 44) x split (lit≤ tt) gap-within
 
-  pub norm-within : (split : ℕ) → Within 22 (normOf x split)
+  pub source-within : (split : ℕ) → Within 22 (sourceNorm x split)
+  unfolding sourceNorm
+  source-within split = root-within 22 (largestSquare x split) (lit≤ tt) (square-fits x split) (square-within split)
+
+  pub norm-within : (split : ℕ) → Within 23 (normOf x split)
   unfolding normOf
-  norm-within split = root-within 22 (largestSquare x split) (lit≤ tt) (square-fits x split) (square-within split)
+  norm-within split =
+      let n = sourceNorm x split in
+      let w = source-within split in
+      raised-keeps (Within 23) n (within-more 22 23 n (lit≤ tt) w) (mul-within 22 1 n upward (lit≤ tt) w upward-within)
 
 -- ---- the public answer: its norm, zero where refused, is finite and not below zero
-abbrev Real : Float → Type 0
+abbrev pub Real : Float → Type 0
 Real v = T (isFinite v) × T (le zero32 v)
 
 zero-real : Real zero32
 unfolding isFinite ofBits
 zero-real = (tt, plus-up zero32 tt)
 
-module _ (x : List (List Float)) (split : ℕ) where
-  answer-real : Real (admitted (splitRefusal x split) (normOf x split) zero32)
-  answer-real =
-      admitted-keeps Real (splitRefusal x split) (normOf x split) zero32
-      (λ e. (within-real 22 (normOf x split) (norm-within x (split-admits x split e .0) split), norm-up x split))
-      zero-real
-
-  -- the clauses of the public call
-  pub norm-clauses : (r : Answered) → r ≡ answered (splitRefusal x split) (normOf x split)
-      → (r ≡ answered (splitRefusal x split) (normOf x split)) × ((refusalOf r ≡ splitRefusal x split)
-      × ((valueOf r ≡ admitted (splitRefusal x split) (normOf x split) zero32) × Real (valueOf r)))
-  norm-clauses r e =
-      let all = clauses (splitRefusal x split) (normOf x split) r e in
-      (e, (all .1 .0, (all .1 .1, subst Real (sym (all .1 .1)) answer-real)))
+pub answer-real : (x : List (List Float)) (split : ℕ) → Real (admitted (splitRefusal x split) (normOf x split) zero32)
+answer-real x split =
+    admitted-keeps Real (splitRefusal x split) (normOf x split) zero32
+    (λ e. (within-real 23 (normOf x split) (norm-within x (split-admits x split e .0) split), norm-up x split))
+    zero-real

@@ -20,15 +20,14 @@ use lib.Ieee.{Float, binary32, up, down, fits}
 use lib.Ieee.Bits.{is-true}
 use lib.Ieee.Fits.{and-i}
 use Rattle.number.specs.Number.{_⊗_, refusal, unitsOf}
-use Rattle.number.proofs.SquareRoot.Bounds.{root-from-zero}
 use Rattle.number.proofs.PowersOfTwo.Products.{times-up, times-down}
 use Rattle.geometry.specs.Geometry.{at, col, scaled}
 use Rattle.admission.specs.Admission.{ofTwelve, finitePoints, boundedPoints, isSplit, splitRefusal}
 use Rattle.admission.proofs.Admitted.{twelve-each, points-real}
-use Rattle.pair.specs.Points.{largestSquare, normOf}
+use Rattle.pair.specs.Points.{sourceNorm}
 use Rattle.pair.specs.SamePair.{reordered, withinSides, exchanged, opposite, powerOf, exactCoordinate, ExactTimes}
 use Rattle.pair.specs.SamePair.{ordinaryTimes}
-use Rattle.pair.proofs.Norms.{square-fits}
+use Rattle.pair.proofs.Norms.{source-from}
 use Rattle.pair.proofs.SamePair.Columns.{scaled-number}
 use Rattle.pair.proofs.SamePair.Reordered.{within-onto, reordered-norm}
 use Rattle.pair.proofs.SamePair.Turned.{other, other-onto, exchanged-norm, opposite-norm}
@@ -39,7 +38,7 @@ use Rattle.pair.proofs.SamePair.Ordinary.{ordinary-times}
 
 -- ---- 1. the columns in another order within the sides, of any split
 pub norm-reordered : (x : List (List Float)) (split : ℕ) (order : ℕ → ℕ) → T (withinSides split order)
-    → normOf (reordered order x) split ≡ normOf x split
+    → sourceNorm (reordered order x) split ≡ sourceNorm x split
 norm-reordered x split order h = reordered-norm split order h x
 
 pub refusal-reordered : (x : List (List Float)) (split : ℕ) (order : ℕ → ℕ) → T (withinSides split order)
@@ -61,24 +60,20 @@ unfolding withinSides
 face-orders = tt
 
 -- ---- 2. both edges exchanged
-pub norm-exchanged : (x : List (List Float)) → normOf (exchanged x) 2 ≡ normOf x 2
+pub norm-exchanged : (x : List (List Float)) → sourceNorm (exchanged x) 2 ≡ sourceNorm x 2
 norm-exchanged x = exchanged-norm x
 
 pub refusal-exchanged : (x : List (List Float)) → splitRefusal (exchanged x) 2 ≡ splitRefusal x 2
 refusal-exchanged x = reordered-refusal other other-onto x 2
 
 -- ---- 3. all signs changed
-pub norm-opposite : (x : List (List Float)) (split : ℕ) → normOf (opposite x) split ≡ normOf x split
+pub norm-opposite : (x : List (List Float)) (split : ℕ) → sourceNorm (opposite x) split ≡ sourceNorm x split
 norm-opposite x split = opposite-norm x split
 
 pub refusal-opposite : (x : List (List Float)) (split : ℕ) → splitRefusal (opposite x) split ≡ splitRefusal x split
 refusal-opposite x split = opposite-refusal x split
 
 -- ---- 4. every number times 2 ^ k
-norm-fits : (x : List (List Float)) (split : ℕ) → T (fits binary32 (normOf x split))
-unfolding normOf
-norm-fits x split = root-from-zero (largestSquare x split) (square-fits x split) .fit
-
 number-times : (k : ℤ) (x : List (List Float)) (split : ℕ) → ExactTimes k x split → (i j : ℕ) → i < 4 → j < 3
     → ByPower k (at (col x i) j) (at (col (scaled x (powerOf k)) i) j)
 number-times k x split e i j m l =
@@ -86,7 +81,7 @@ number-times k x split e i j m l =
     (coordinate-times k (at (col x i) j) (twelve-each (exactCoordinate k) x (e .coordinates) i j m l))
 
 norm-by : (k : ℤ) (x : List (List Float)) (split : ℕ) → ExactTimes k x split
-    → ByPower k (normOf x split) (normOf (scaled x (powerOf k)) split)
+    → ByPower k (sourceNorm x split) (sourceNorm (scaled x (powerOf k)) split)
 norm-by (pos t) x split e =
     norm-times t x (scaled x (powerOf (pos t))) split (number-times (pos t) x split e) (e .before) (e .after)
 norm-by (negsuc n) x split e =
@@ -94,10 +89,10 @@ norm-by (negsuc n) x split e =
     (e .before)
 
 pub norm-multiplied : (k : ℤ) (x : List (List Float)) (split : ℕ) → ExactTimes k x split
-    → normOf (scaled x (powerOf k)) split ≡ normOf x split ⊗ powerOf k
+    → sourceNorm (scaled x (powerOf k)) split ≡ sourceNorm x split ⊗ powerOf k
 norm-multiplied k x split e =
     let y = scaled x (powerOf k) in
-    go k (normOf x split) (normOf y split) (norm-fits y split) (norm-by k x split e)
+    go k (sourceNorm x split) (sourceNorm y split) (source-from y split .fit) (norm-by k x split e)
   where
     go : (k : ℤ) (m n : Float) → T (fits binary32 n) → ByPower k m n → n ≡ m ⊗ powerOf k
     go (pos t) m n f h = sym (times-up t m n h f)
@@ -105,8 +100,8 @@ norm-multiplied k x split e =
 
 -- the product is not rounded: in units it is 2 ^ k times the norm
 pub norm-unrounded : (k : ℤ) (x : List (List Float)) (split : ℕ) → ExactTimes k x split
-    → unitsOf (normOf (scaled x (powerOf k)) split) * down k ≡ unitsOf (normOf x split) * up k
-norm-unrounded k x split e = units-by k (normOf x split) (normOf (scaled x (powerOf k)) split) (norm-by k x split e)
+    → unitsOf (sourceNorm (scaled x (powerOf k)) split) * down k ≡ unitsOf (sourceNorm x split) * up k
+norm-unrounded k x split e = units-by k (sourceNorm x split) (sourceNorm (scaled x (powerOf k)) split) (norm-by k x split e)
 
 pub multiplied-admitted : (k : ℤ) (x : List (List Float)) (split : ℕ) → ExactTimes k x split → T (isSplit split)
     → splitRefusal (scaled x (powerOf k)) split ≡ 0

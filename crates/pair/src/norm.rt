@@ -27,19 +27,33 @@ fn largest_square(x: [[f32; 3]; 4], split: usize) -> f32
     largest
 }
 
-// Its root. Any points and any split are taken: the largest over no column at all is zero.
-pub fn norm(x: [[f32; 3]; 4], split: usize) -> f32
-    ensures { λ r. ⌜ r ≡ Def.normOf x split ⌝ }
+// The source's norm: its root. Any points and any split are taken: the largest over no column at all is zero.
+fn source_norm(x: [[f32; 3]; 4], split: usize) -> f32
+    ensures { λ r. ⌜ r ≡ Def.sourceNorm x split ⌝ }
 {
     root::root(largest_square(x, split))
 }
 
-// The public call: the norm, or a refusal by 1 or 2.
+// The norm, which errs upward: the source's times 1 + 2^-21 where that is at least 2^-60.
+pub fn norm(x: [[f32; 3]; 4], split: usize) -> f32
+    ensures { λ r. ⌜ r ≡ Def.normOf x split ⌝ }
+{
+    let source = source_norm(x, split);
+    if source < 8.673617379884035e-19 {
+        source
+    } else {
+        source * 1.000000476837158203125
+    }
+}
+
+// The public call: the norm, or a refusal by 1 or 2. A norm of 2^-60 or more is not below the exact largest distance, and
+// not above it times 1 + 2^-20.
 pub fn max_relative_norm(x: [[f32; 3]; 4], split: usize) -> Answered
     ensures answer { λ r. ⌜ r ≡ answered (splitRefusal x split) (Def.normOf x split) ⌝ }
     ensures refusal { λ r. ⌜ refusalOf r ≡ splitRefusal x split ⌝ }
     ensures value { λ r. ⌜ valueOf r ≡ admitted (splitRefusal x split) (Def.normOf x split) zero32 ⌝ }
     ensures norm { λ r. ⌜ T (isFinite (valueOf r)) × T (le zero32 (valueOf r)) ⌝ }
+    ensures upward { λ r. ⌜ (refusalOf r ≡ 0 → Def.ErrsUpward x split (valueOf r)) ⌝ }
 {
     let refusal = admission::admit_split(x, split);
     if refusal == 0 {

@@ -12,16 +12,13 @@ use lib.Pow.{pow-pos}
 use lib.Ieee.{Float, binary32, round, neg, sub, lt, ofBits}
 use lib.Ieee.Exact.{HasValue}
 use lib.Ieee.Scale.{finite, grid-scale, normal-of-fraction}
-use Rattle.number.specs.Number.{_⊕_, _⊖_, zero32, larger}
-use Rattle.number.proofs.Rounding.{rnd, rnd-same, rnd-own}
+use Rattle.number.specs.Number.{_⊕_, _⊖_, zero32, larger, unitsApart}
+use Rattle.number.proofs.Rounding.{rnd, rnd-own}
 use Rattle.number.proofs.Units.{L, plus, lt-is}
-use Rattle.number.proofs.Signed.{round-value, value-neg, value-plus, ltb-times, summed, sum-over, add-units}
+use Rattle.number.proofs.Signed.{rnd-whole, round-whole, value-neg, value-plus}
+use Rattle.number.proofs.Signed.Sums.{ltb-times, summed, sum-over, add-units}
 
 -- ---- rounding
--- a whole number of units
-pub rnd-whole : (n : ℕ) → rnd (n * L) L ≡ rnd n 1
-rnd-whole n = rnd-same (n * L) L n 1 (pow-pos 149) (pow-pos 0) (mul-one (n * L))
-
 pub rnd-power : (n t : ℕ) → rnd (n * 2 ^ t) 1 ≡ rnd n 1 * 2 ^ t
 rnd-power n t = go (decLe (2 ^ 23) n)
   where
@@ -56,15 +53,16 @@ round-times : (t : ℕ) (s : Bool) (n : ℕ) → T (finite (round binary32 s n L
 round-times t s n f g = record {
   sign = s;
   units = rnd n 1;
-  small = subst (λ (w : ℕ). HasValue (round binary32 s n L) s w L) (rnd-whole n) (round-value s n L f);
-  large = subst (λ (w : ℕ). HasValue (round binary32 s (n * 2 ^ t) L) s w L) (rnd-whole (n * 2 ^ t) ∙ rnd-power n t)
-      (round-value s (n * 2 ^ t) L g);
+  small = round-whole s n f;
+  large = subst (λ (w : ℕ). HasValue (round binary32 s (n * 2 ^ t) L) s w L) (rnd-power n t)
+      (round-whole s (n * 2 ^ t) g);
 }
 
 module _ (t : ℕ) (x x' y y' : Float) (p : Times t x x') (q : Times t y y') where
   pub add-times : T (finite (x ⊕ y)) → T (finite (x' ⊕ y')) → Times t (x ⊕ y) (x' ⊕ y')
   add-times f g =
-      let (o, n, is) = summed (p .sign) (p .units) (q .sign) (q .units) in
+      let (o, is) = summed (p .sign) (p .units) (q .sign) (q .units) in
+      let n = unitsApart (p .sign) (p .units) (not (q .sign)) (q .units) in
       let small : x ⊕ y ≡ round binary32 o n L =
       add-units x y (p .sign) (q .sign) (p .units) (q .units) (p .small) (q .small)
       ∙ sum-over (p .sign) (p .units) (q .sign) (q .units) L 1 (pow-pos 149) (pow-pos 0)

@@ -2,9 +2,9 @@
 -- units nearest to the exact root (`Root` of Products), and of half the exponent's bound. Assumes nothing.
 use mathlib.Core.Path.{_≡_, refl, sym, ap, _∙_, subst}
 use mathlib.Core.Bool.{Bool, true, false}
-use Prim.Native.Nat.{ℕ, _+_, _*_, _/_, _^_, _≤_, _<_, zero-le}
+use Prim.Native.Nat.{ℕ, _+_, _-_, _*_, _/_, _^_, _≤_, _<_, zero-le}
 use native.Mathlib.Nat.{le-trans, le-of-eq, le-of-lt, lt-of-lt-of-le, lt-of-le-of-lt, not-le-of-lt, mul-comm, mul-one}
-use native.Mathlib.Nat.{one-mul, mul-assoc, mul-mul-mul-comm, mul-pos, mul-le-mul-right, mul-le-mul-left}
+use native.Mathlib.Nat.{one-mul, mul-sub, mul-assoc, mul-mul-mul-comm, mul-pos, mul-le-mul-right, mul-le-mul-left}
 use native.Mathlib.Omega.{arith}
 use lib.Dec.{T, lt→ltb, lit<}
 use lib.Pow.{pow-add, pow-pos, pow-mono, pow-lt, shl-lt}
@@ -70,22 +70,43 @@ module _ (x : Float) (u : ℕ) (f : T (fits binary32 x)) (a : T (lt zero32 x)) (
       subst (λ (y : Float). Is y R) (sym (theorem.is-root x f a (real x u i)))
       (bits-are (r .b) (theorem.under-top x f a (real x u i)))
 
+  four-times : u * L * 4 ≡ 4 * wholeOf (r .p) (r .k) * (2 ^ j * 2 ^ j)
+  four-times =
+      ap (λ (n : ℕ). n * L * 4) (sym (units-is x u i)) ∙ ap (λ (n : ℕ). n * 4) (r .scale)
+      ∙ ap (λ (n : ℕ). n * 4) (whole-scale (r .p) (r .k)) ∙ four (wholeOf (r .p) (r .k)) (2 ^ j * 2 ^ j)
+    where
+      four : (a b : ℕ) → a * b * 4 ≡ 4 * a * b
+      four a b = mul-comm (a * b) 4 ∙ sym (mul-assoc 4 a b)
+
   -- the exact root is at most a half of the last digit above
   close : u * L * 4 ≤ (R * 2 + 2 ^ j) * (R * 2 + 2 ^ j)
   close =
       let q = r .bits .digits in
       let w = 2 ^ j in
-      le-trans (le-of-eq (ap (λ (n : ℕ). n * L * 4) (sym (units-is x u i)) ∙ ap (λ (n : ℕ). n * 4) (r .scale)
-      ∙ ap (λ (n : ℕ). n * 4) (whole-scale (r .p) (r .k)) ∙ four (wholeOf (r .p) (r .k)) (w * w)))
+      le-trans (le-of-eq four-times)
       (le-trans (mul-le-mul-right (w * w) (le-of-lt (r .bits .over)))
       (le-of-eq (sym (mul-mul-mul-comm (2 * q + 1) w (2 * q + 1) w)
       ∙ ap (λ (n : ℕ). n * n) (regroup q w ∙ ap (λ (n : ℕ). n * 2 + w) (sym digits-are)))))
     where
-      four : (a b : ℕ) → a * b * 4 ≡ 4 * a * b
-      four a b = mul-comm (a * b) 4 ∙ sym (mul-assoc 4 a b)
-
       regroup : (q w : ℕ) → (2 * q + 1) * w ≡ q * w * 2 + w
       regroup q w = omega arith
+
+  -- and at most a half of it below
+  apart : (R * 2 - 2 ^ j) * (R * 2 - 2 ^ j) ≤ u * L * 4
+  apart =
+      let q = r .bits .digits in
+      let w = 2 ^ j in
+      le-trans (le-of-eq (ap (λ (n : ℕ). (n * 2 - w) * (n * 2 - w)) digits-are ∙ ap (λ (n : ℕ). n * n) (regroup q w)
+      ∙ mul-mul-mul-comm (2 * q - 1) w (2 * q - 1) w))
+      (le-trans (mul-le-mul-right (w * w) (le-of-lt (r .bits .under))) (le-of-eq (sym four-times)))
+    where
+      twice : (q w : ℕ) → q * w * 2 ≡ w * (2 * q)
+      twice q w = omega arith
+
+      regroup : (q w : ℕ) → q * w * 2 - w ≡ (2 * q - 1) * w
+      regroup q w =
+          ap (λ (n : ℕ). n - w) (twice q w) ∙ ap (λ (n : ℕ). w * (2 * q) - n) (sym (mul-one w)) ∙ sym (mul-sub w (2 * q) 1)
+          ∙ mul-comm w (2 * q - 1)
 
   small : R < Top
   small =
@@ -101,7 +122,7 @@ module _ (x : Float) (u : ℕ) (f : T (fits binary32 x)) (a : T (lt zero32 x)) (
     is = record { is = root-units; rep = (r .bits .digits, j, r .bits .high, digits-are); under = small };
     sign = theorem.root-from x f a (real x u i) .sign;
     above = says-lt zero32 (rootOf x) 0 R zero-is root-units some;
-    near = record { k = j; q = r .bits .digits; is = digits-are; digits = r .bits .low; low = close };
+    near = record { k = j; q = r .bits .digits; is = digits-are; digits = r .bits .low; low = close; high = apart };
   }
 
 -- ---- the bound: a number of at most 2 ^ (2 * a) has a root of at most 2 ^ a

@@ -14,7 +14,7 @@ use Rattle.number.proofs.Transitive.{lt-not-le}
 use Rattle.number.proofs.Largest.{NotBelow, larger-reaches, larger-stays, larger-plus, plus-level}
 use Rattle.geometry.specs.Geometry.{Cross}
 use Rattle.geometry.proofs.CrossPairs.{Crosses, pairs-keep, pairs-reach}
-use Rattle.pair.specs.Points.{gapSquare, largestSquare, normOf}
+use Rattle.pair.specs.Points.{gapSquare, largestSquare, sourceNorm}
 use Rattle.pair.proofs.Norms.{square-fits}
 
 module _ (x : List (List Float)) (split : ℕ) where
@@ -65,8 +65,8 @@ not-below split x y h = go (one x split)
         subst (λ (z : Float). NotBelow z (largestSquare y split)) (sym (e ∙ f)) (above y split q d)
 
 pub covered-norm : (split : ℕ) (x y : List (List Float)) → Covered split x y → Covered split y x
-    → normOf x split ≡ normOf y split
-unfolding normOf
+    → sourceNorm x split ≡ sourceNorm y split
+unfolding sourceNorm
 covered-norm split x y h k =
     ap rootOf (plus-level (largestSquare x split) (largestSquare y split) (square-fits x split) (square-fits y split)
     (square-plus x split) (square-plus y split) (not-below split x y h) (not-below split y x k))

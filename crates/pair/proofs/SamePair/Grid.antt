@@ -13,16 +13,16 @@ use lib.Ieee.{Float, binary32, round, neg, sub, le, fits, ofBits}
 use lib.Ieee.Exact.{HasValue}
 use lib.Ieee.Fits.{and-i, add-fits, sub-fits, mul-fits}
 use lib.Ieee.Scale.{finite}
-use Rattle.number.specs.Number.{_⊕_, _⊖_, _⊗_, size, isFinite}
+use Rattle.number.specs.Number.{_⊕_, _⊖_, _⊗_, size, isFinite, unitsApart}
 use Rattle.number.proofs.Rounding.{rnd, rnd-mono, rnd-own, rnd-fix}
 use Rattle.number.proofs.Units.Compared.{L, says-le}
-use Rattle.number.proofs.Sums.Rounded.{sum-ff}
 use Rattle.number.proofs.Comparing.{or-l, or-r}
 use Rattle.number.proofs.Within.{Within, within-finite, within-more, sub-within, mul-within, add-within}
 use Rattle.number.proofs.Finite.{is-finite}
 use Rattle.number.proofs.Patterns.{bits-are}
-use Rattle.number.proofs.Signed.{value-finite, value-size, value-neg, value-zero, round-value, summed, add-units}
-use Rattle.number.proofs.PowersOfTwo.Times.{rnd-whole, rnd-power}
+use Rattle.number.proofs.Signed.{value-finite, value-size, value-neg, value-zero, round-whole}
+use Rattle.number.proofs.Signed.Sums.{summed, add-units, plus-value}
+use Rattle.number.proofs.PowersOfTwo.Times.{rnd-power}
 use Rattle.number.proofs.PowersOfTwo.Squares.{square-value}
 use Rattle.geometry.specs.Geometry.{at, col, minus, Cross}
 use Rattle.geometry.proofs.CrossPairs.{pairs-keep}
@@ -60,7 +60,8 @@ grid-sub : (x y : Float) → Grid 20 x → Grid 20 y → Grid 21 (x ⊖ y)
 unfolding sub
 grid-sub x y g h =
     let near = sub-within 20 x y (lit≤ tt) (g .within) (h .within) in
-    let (o, n, is) = summed (g .sign) (g .steps) (not (h .sign)) (h .steps) in
+    let (o, is) = summed (g .sign) (g .steps) (not (h .sign)) (h .steps) in
+    let n = unitsApart (g .sign) (g .steps) (not (not (h .sign))) (h .steps) in
     let e : x ⊖ y ≡ round binary32 o (n * 2 ^ 86) L =
     add-units x (neg y) (g .sign) (not (h .sign)) (g .steps * 2 ^ 86) (h .steps * 2 ^ 86) (g .is)
     (value-neg y (h .sign) (h .steps * 2 ^ 86) (h .is)) ∙ is (2 ^ 86) L (pow-pos 86)
@@ -71,8 +72,8 @@ grid-sub x y g h =
       steps = rnd n 1;
       is =
           subst (λ (z : Float). HasValue z o (rnd n 1 * 2 ^ 86) L) (sym e)
-          (subst (λ (u : ℕ). HasValue (round binary32 o (n * 2 ^ 86) L) o u L) (rnd-whole (n * 2 ^ 86) ∙ rnd-power n 86)
-          (round-value o (n * 2 ^ 86) L real));
+          (subst (λ (u : ℕ). HasValue (round binary32 o (n * 2 ^ 86) L) o u L) (rnd-power n 86)
+          (round-whole o (n * 2 ^ 86) real));
       within = near;
     }
 
@@ -136,18 +137,11 @@ tall-settled : (x : Float) → T (fits binary32 x) → Tall x → T (normalOrZer
 tall-settled x f t = value-settled x false (t .units) f (t .is) (t .settled)
 
 tall-sum : (x y : Float) → Tall x → Tall y → T (finite (x ⊕ y)) → Tall (x ⊕ y)
-tall-sum x y p q f =
-    let n = p .units + q .units in
-    let e : x ⊕ y ≡ round binary32 false n L =
-    add-units x y false false (p .units) (q .units) (p .is) (q .is) ∙ sum-ff (p .units) (q .units) L in
-    record {
-      units = rnd n 1;
-      is =
-          subst (λ (z : Float). HasValue z false (rnd n 1) L) (sym e)
-          (subst (λ (u : ℕ). HasValue (round binary32 false n L) false u L) (rnd-whole n)
-          (round-value false n L (subst (λ (z : Float). T (finite z)) e f)));
-      settled = go (p .settled) (q .settled);
-    }
+tall-sum x y p q f = record {
+  units = rnd (p .units + q .units) 1;
+  is = plus-value x y (p .units) (q .units) (p .is) (q .is) f;
+  settled = go (p .settled) (q .settled);
+}
   where
     over : (n : ℕ) → 2 ^ 23 ≤ n → 2 ^ 23 ≤ rnd n 1
     over n l =

@@ -19,7 +19,7 @@ use Rattle.geometry.specs.Geometry.{at, col, minus, Cross}
 use Rattle.geometry.proofs.CrossPairs.{Crosses, pairs-match, pairs-reach}
 use Rattle.admission.specs.Admission.{ofThree}
 use Rattle.admission.proofs.Admitted.{three-each}
-use Rattle.pair.specs.Points.{gapSquare, largestSquare, normOf}
+use Rattle.pair.specs.Points.{gapSquare, largestSquare, sourceNorm}
 use Rattle.pair.specs.SamePair.{normalOrZero, exactSquare, exactGap, exactGaps}
 use Rattle.pair.proofs.Norms.{square-fits}
 use Rattle.pair.proofs.SamePair.Tested.{settled-finite, square-finite, square-squared}
@@ -124,8 +124,8 @@ module _ (t : ℕ) (x y : List (List Float)) (split : ℕ)
         larger-plus n (gapSquare y p) k,
       )) zero32 zero32 (zero-times (t + t), tt, tt)
 
-  pub norm-times : Times t (normOf x split) (normOf y split)
-  unfolding normOf
+  pub norm-times : Times t (sourceNorm x split) (sourceNorm y split)
+  unfolding sourceNorm
   norm-times =
       root-times t (largestSquare x split) (largestSquare y split) (square-fits x split) (square-fits y split)
       (largest-times .1) (largest-times .2) (largest-times .0)

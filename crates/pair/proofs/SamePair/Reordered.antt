@@ -14,7 +14,7 @@ use Rattle.number.proofs.Numbers.{le-of-not-lt}
 use Rattle.number.proofs.Comparing.{or-cases, all-four}
 use Rattle.geometry.specs.Geometry.{col, Cross, cross}
 use Rattle.geometry.proofs.CrossPairs.{Crosses}
-use Rattle.pair.specs.Points.{normOf}
+use Rattle.pair.specs.Points.{sourceNorm}
 use Rattle.pair.specs.SamePair.{reordered, sameSide, stands, withinSides}
 use Rattle.pair.proofs.SamePair.Columns.{gapOf, gap-columns, gap-of}
 use Rattle.pair.proofs.SamePair.Covered.{Covered, covered-norm}
@@ -111,5 +111,5 @@ module _ (split : ℕ) (order : ℕ → ℕ) (h : T (withinSides split order)) w
             ∙ sym (gap-of x p)),
       )
 
-  pub reordered-norm : (x : List (List Float)) → normOf (reordered order x) split ≡ normOf x split
+  pub reordered-norm : (x : List (List Float)) → sourceNorm (reordered order x) split ≡ sourceNorm x split
   reordered-norm x = covered-norm split (reordered order x) x (new-covered x) (old-covered x)

@@ -7,7 +7,7 @@ use mathlib.Core.List.{List}
 use lib.Ieee.{Float}
 use Rattle.geometry.specs.Geometry.{col, Cross, cross}
 use Rattle.geometry.proofs.CrossPairs.{Crosses}
-use Rattle.pair.specs.Points.{gapSquare, normOf}
+use Rattle.pair.specs.Points.{gapSquare, sourceNorm}
 use Rattle.pair.specs.SamePair.{exchanged, opposite}
 use Rattle.pair.proofs.SamePair.Columns.{gapOf, minusOf, gap-columns, gap-of, gap-turned, gap-opposite}
 use Rattle.pair.proofs.SamePair.Covered.{Covered, covered-norm}
@@ -49,7 +49,7 @@ module _ (x : List (List Float)) where
             ∙ sym (gap-columns (λ (i : ℕ). col x (other i)) (cross (other j) (other i)) (omega arith) (omega arith)),
       )
 
-  pub exchanged-norm : normOf (exchanged x) 2 ≡ normOf x 2
+  pub exchanged-norm : sourceNorm (exchanged x) 2 ≡ sourceNorm x 2
   exchanged-norm = covered-norm 2 (exchanged x) x new-edges old-edges
 
   -- ---- signs
@@ -58,7 +58,7 @@ module _ (x : List (List Float)) where
       gap-columns (λ (i : ℕ). minusOf (col x i)) p (omega arith) (c .2)
       ∙ gap-opposite (col x (p .first)) (col x (p .second)) ∙ sym (gap-of x p)
 
-  pub opposite-norm : (split : ℕ) → normOf (opposite x) split ≡ normOf x split
+  pub opposite-norm : (split : ℕ) → sourceNorm (opposite x) split ≡ sourceNorm x split
   opposite-norm split =
       covered-norm split (opposite x) x (λ p c. (p, c, opposite-gap split p c))
       (λ p c. (p, c, sym (opposite-gap split p c)))

@@ -6,13 +6,13 @@ use borrow.Author.Needs.{needs}
 use lib.Dec.{T}
 use lib.ListN.{length}
 use denote.Struct.Laws.{owed}
+use Rattle.geometry.proofs.Handed.{points-fit}
 use Rattle.admission.proofs.Limits.{the-type}
 use Rattle.admission.proofs.Limits.Laws.{the-laws}
 use Rattle.ccd3.specs.declared.SafeTime.{SafeTime}
 use Rattle.ccd3.specs.declared.Counted.{Counted}
 use Rattle.ccd3.specs.SafeTime.{Walked, allowance, safeWalk, safeTimeOf, Promises}
 use Rattle.ccd3.specs.Inner.{countedFrom}
-use Rattle.ccd3.proofs.Handed.{points-fit}
 use Rattle.ccd3.proofs.Admitted.{Fitting}
 use Rattle.ccd3.proofs.Promises.{safe-time-promised}
 use Rattle.ccd3.proofs.safe_time.maximum_safe_time_accurate.Statement.{statement}

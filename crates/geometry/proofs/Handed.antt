@@ -1,5 +1,4 @@
--- What a function is told of the numbers that it is handed: each is an f32. Of four points as an array of arrays, and
--- of the limits. Assumes nothing.
+-- What a function is told of four points that it is handed, an array of arrays: each number is an f32. Assumes nothing.
 use mathlib.Core.Path.{sym, subst}
 use mathlib.Core.List.{List, [], _∷_}
 use Prim.Native.Nat.{ℕ, zero, suc, _<_}
@@ -13,7 +12,11 @@ use denote.Shadow.{shadow}
 use denote.Array.{Array, each}
 use denote.Builtin.{f32}
 use denote.Laws.{Is}
 use Rattle.geometry.specs.Geometry.{at, col}
+
+-- each number of four points is an f32
+abbrev pub PointsFit : List (List Float) → Type 0
+PointsFit x = (i j : ℕ) → i < 4 → j < 3 → T (fits binary32 (at (col x i) j))
 
 each-number : (v : List Float) (us : List Val) → shadow (each Float (f32 .own) v us) → (j : ℕ) → j < length v
     → T (fits binary32 (at v j))
@@ -32,7 +35,6 @@ each-column (v ∷ x) [] s i j k l = absurd s
 each-column (v ∷ x) (u ∷ us) s zero j k l = three-numbers v (u ∷ []) (s .0) j l
 each-column (v ∷ x) (u ∷ us) s (suc i) j k l = each-column x us (s .1) i j (le-of-suc-le-suc k) l
 
-pub points-fit : (x : List (List Float)) (vs : List Val) → Is (Array (Array f32 3) 4) x vs
-    → (i j : ℕ) → i < 4 → j < 3 → T (fits binary32 (at (col x i) j))
+pub points-fit : (x : List (List Float)) (vs : List Val) → Is (Array (Array f32 3) 4) x vs → PointsFit x
 points-fit x vs p i j k l =
     each-column x (p .0) (p .1 .1) i j (subst (λ (n : ℕ). i < n) (sym (p .1 .0 .1)) k) l
