@@ -17,6 +17,7 @@ pub fn own_safe_time(
 ) -> SafeTime
     ensures answer { λ r. ⌜ r ≡ Def.ownSafeTime x0 dx split offset clearance «max_t» ⌝ }
     ensures promised { λ r. ⌜ Def.OwnPromises x0 dx split offset clearance «max_t» r ⌝ }
+    ensures speed { λ r. ⌜ Def.OwnSpeed x0 dx split offset clearance «max_t» r ⌝ }
 {
     let u_max = norm(dx, split);
     let limits = Limits {

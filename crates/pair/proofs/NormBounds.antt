@@ -33,17 +33,9 @@ use Rattle.admission.proofs.Admitted.{split-admits}
 use Rattle.pair.specs.Points.{largestSquare, largestExact, sourceNorm, upward, normOf}
 use Rattle.pair.specs.Points.{ErrsUpward}
 use Rattle.pair.proofs.NormBounds.Largest.{Held, largest-held}
-use Rattle.pair.proofs.NormBounds.Raised.{factor, product, product-grows, product-upward, product-little}
+use Rattle.pair.proofs.NormBounds.Raised.{product, product-grows, product-upward, product-little}
 use Rattle.pair.proofs.Norms.{square-fits, source-from, source-within, raised-small, raised-large, Real}
-use Rattle.pair.proofs.Norms.{answer-real}
-
-least-is : Is leastSpeed (2 ^ 89)
-unfolding ofBits
-least-is = refl
-
-upward-is : Is upward factor
-unfolding ofBits
-upward-is = refl
+use Rattle.pair.proofs.Norms.{factor, least-is, upward-is, answer-real}
 
 module _ (x : List (List Float)) (split : ℕ) (h : T (boundedPoints x)) (f : PointsFit x) where
   abbrev source : Float

@@ -1,22 +1,23 @@
 -- The norm of any four points has the sign plus, so it is not below zero; of points within the bound it is at most
 -- 2 ^ 23. Assumes nothing.
-use Prim.Native.Nat.{ℕ, _<_}
+use Prim.Native.Nat.{ℕ, _+_, _^_, _<_}
 use native.Mathlib.Omega.{arith}
-use mathlib.Core.Path.{_≡_, ap, subst}
+use mathlib.Core.Path.{_≡_, refl, ap, subst}
 use mathlib.Core.Bool.{Bool, true, false, cond}
 use mathlib.Core.List.{List}
 use lib.Dec.{T, lit≤, lit<}
 use lib.Ieee.{Float, binary32, lt, le, fits, ofBits}
 use lib.Ieee.Bits.{ofBits-fits}
-use lib.Ieee.Fits.{add-fits}
+use lib.Ieee.Fits.{add-fits, mul-fits}
 use Rattle.number.specs.Number.{_⊖_, _⊗_, zero32, larger, leastSpeed, isFinite, admitted}
+use Rattle.number.proofs.Units.Compared.{Is}
 use Rattle.number.proofs.Units.{plus}
 use Rattle.number.proofs.Within.{Within, within-more, sub-within, mul-within, dot-within}
 use Rattle.number.proofs.Signs.{plus-up, product-plus}
 use Rattle.number.proofs.Choice.{larger-keeps}
 use Rattle.number.proofs.Answers.{admitted-keeps}
 use Rattle.number.proofs.SquareRoot.Theorem.{FromZero}
-use Rattle.number.proofs.SquareRoot.Bounds.{root-from-zero, root-within}
+use Rattle.number.proofs.SquareRoot.Bounds.{root-from-zero, root-within, root-any}
 use Rattle.geometry.proofs.CrossPairs.{pairs-keep}
 use Rattle.geometry.specs.Geometry.{at, col, Cross}
 use Rattle.pair.specs.Points.{gapSquare, largestSquare, sourceNorm, upward, raised, normOf}
@@ -42,7 +43,24 @@ pub source-from : (x : List (List Float)) (split : ℕ) → FromZero (sourceNorm
 unfolding sourceNorm
 source-from x split = root-from-zero (largestSquare x split) (square-fits x split)
 
+-- whatever the points are, it is at most 2 ^ 64
+pub source-any : (x : List (List Float)) (split : ℕ) → Within 64 (sourceNorm x split)
+unfolding sourceNorm
+source-any x split = root-any (largestSquare x split) (square-fits x split)
+
 -- ---- raised
+-- 2 ^ -60 and 1 + 2 ^ -21 in units
+pub least-is : Is leastSpeed (2 ^ 89)
+unfolding ofBits
+least-is = refl
+
+abbrev pub factor : ℕ
+factor = 2 ^ 149 + 2 ^ 128
+
+pub upward-is : Is upward factor
+unfolding ofBits
+upward-is = refl
+
 pub raised-small : (n : Float) → lt n leastSpeed ≡ true → raised n ≡ n
 unfolding raised
 raised-small n e = ap (λ (b : Bool). cond b n (n ⊗ upward)) e
@@ -68,10 +86,16 @@ norm-plus x split =
     raised-keeps (λ (y : Float). T (plus y)) n (s .sign)
     (product-plus n upward (subst T (is-finite n) (s .real)) tt (s .sign) tt)
 
+pub norm-fits : (x : List (List Float)) (split : ℕ) → T (fits binary32 (normOf x split))
+unfolding normOf
+norm-fits x split =
+    raised-keeps (λ (y : Float). T (fits binary32 y)) (sourceNorm x split) (source-from x split .fit)
+    (mul-fits binary32 (sourceNorm x split) upward)
+
 pub norm-up : (x : List (List Float)) (split : ℕ) → T (le zero32 (normOf x split))
 norm-up x split = plus-up (normOf x split) (norm-plus x split)
 
-upward-within : Within 1 upward
+pub upward-within : Within 1 upward
 unfolding ofBits
 upward-within = lit≤ tt
 

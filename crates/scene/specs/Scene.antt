@@ -8,7 +8,7 @@ use lib.ListN.{getD, length}
 use lib.Ieee.{Float, binary32, ofBits}
 use Rattle.geometry.specs.Geometry.{vec}
 use Rattle.ccd3.specs.declared.SafeTime.{SafeTime}
-use Rattle.own_time.specs.OwnTime.{ownSafeTime, OwnPromises}
+use Rattle.own_time.specs.OwnTime.{ownSafeTime, OwnPromises, OwnSpeed}
 use Rattle.scene.specs.declared.layout.Scene.{Scene}
 
 -- ---- words and numbers
@@ -111,3 +111,6 @@ module _ (s : List ℕ) (i : ℕ) where
 
   abbrev pub PromisesAt : SafeTime → Type 0
   PromisesAt = OwnPromises pointsOf displacementsOf splitOf (limitOf s 1) (limitOf s 2) (limitOf s 3)
+
+  abbrev pub SpeedAt : SafeTime → Type 0
+  SpeedAt = OwnSpeed pointsOf displacementsOf splitOf (limitOf s 1) (limitOf s 2) (limitOf s 3)

@@ -59,6 +59,7 @@ fn limit_of(s: &[u8], k: usize) -> f32
 pub fn safe_time(s: &[u8], index: u32) -> SafeTime
     ensures answer { λ r. ⌜ r ≡ Def.safeTimeAt (now (s .entry)) index ⌝ }
     ensures promised { λ r. ⌜ Def.PromisesAt (now (s .entry)) index r ⌝ }
+    ensures speed { λ r. ⌜ Def.SpeedAt (now (s .entry)) index r ⌝ }
 {
     own_safe_time(
         gathered(s, 4, index),

@@ -4,7 +4,7 @@
 ghost use mathlib.Core.Path.{_≡_};
 ghost use Rattle.number.specs.Number.{answered};
 ghost use Rattle.admission.specs.Admission.{splitRefusal};
-ghost use Rattle.pair.specs.Points.{measured, normOf};
+ghost use Rattle.pair.specs.Points.{measured, normOf, ErrsUpward};
 ghost use Rattle.motion.specs.Motion.{scalingOf, leaves};
 ghost use Rattle.urtemval.specs.Face as Def;
 use crate::answer;
@@ -25,7 +25,8 @@ pub extern "C" fn urtemval_squared_distance(x: &[[f32; 3]; 4], split: usize) -> 
 
 #[no_mangle]
 pub extern "C" fn urtemval_max_relative_norm(x: &[[f32; 3]; 4], split: usize) -> Value
-    ensures { λ r. ⌜ r ≡ Def.told (answered (splitRefusal (now (x .entry)) split) (normOf (now (x .entry)) split)) ⌝ }
+    ensures answer { λ r. ⌜ r ≡ Def.told (answered (splitRefusal (now (x .entry)) split) (normOf (now (x .entry)) split)) ⌝ }
+    ensures upward { λ r. ⌜ (r .refusal ≡ 0 → ErrsUpward (now (x .entry)) split (r .value)) ⌝ }
 {
     let points = *x;
     answer::told(norm::max_relative_norm(points, split))

@@ -1,12 +1,12 @@
 -- The square of a number multiplied by a power of two is multiplied by the power's square, where it is a normal f32,
--- 2 ^ -126 or more, or the number is zero. Assumes nothing.
+-- 2 ^ -126 or more, or the number is zero; its product with another number, a normal f32, by the power. Assumes nothing.
 use mathlib.Core.Path.{_≡_, refl, sym, ap, _∙_, subst}
 use mathlib.Core.Logic.{_⊎_, inl, inr}
 use mathlib.Core.Bool.{Bool, true, false}
 use Prim.Native.Nat.{ℕ, _+_, _-_, _*_, _^_, _≤_, _<_}
 use native.Mathlib.Nat.{le-trans, le-of-eq, le-of-lt, le-of-suc-le-suc, lt-of-not-le, lt-of-lt-of-le, lt-of-le-of-lt}
 use native.Mathlib.Nat.{not-le-of-lt, zero-mul, mul-assoc, mul-mul-mul-comm, mul-pos, mul-le-mul, mul-le-mul-right}
-use native.Mathlib.Nat.{lt-of-mul-lt-mul-right}
+use native.Mathlib.Nat.{lt-of-mul-lt-mul-right, mul-right-comm}
 use native.Mathlib.Decide.{decLe}
 use lib.Dec.{T, lit<, lit≤}
 use lib.Pow.{pow-add, pow-pos}
@@ -25,13 +25,20 @@ use Rattle.number.proofs.PowersOfTwo.Times.{Times}
 abbrev pub Squared : ℕ → Type 0
 Squared u = (u ≡ 0) ⊎ (2 ^ 23 * L ≤ u * u)
 
-square-units : (x : Float) (s : Bool) (u : ℕ) → HasValue x s u L → x ⊗ x ≡ round binary32 false (u * u) (L * L)
+-- what a product hands to `round`
+mul-units : (x y : Float) (s r : Bool) (u v : ℕ) → HasValue x s u L → HasValue y r v L
+    → x ⊗ y ≡ round binary32 (unlike s r) (u * v) (L * L)
 unfolding mul
-square-units (fin s m e) r u p =
-    ap (λ (b : Bool). round binary32 b (m * up e * (m * up e)) (down e * down e)) (like s)
-    ∙ round-same binary32 false (m * up e * (m * up e)) (down e * down e) (u * u) (L * L)
-    (mul-pos (down-pos e) (down-pos e)) (mul-pos (pow-pos 149) (pow-pos 149))
-    (mul-mul-mul-comm (m * up e) (m * up e) L L ∙ ap (λ (x : ℕ). x * x) (p .1) ∙ mul-mul-mul-comm u (down e) u (down e))
+mul-units (fin s' m e) (fin r' n d) s r u v p q =
+    ap (λ (b : Bool). round binary32 (unlike b r') (m * up e * (n * up d)) (down e * down d)) (p .0)
+    ∙ ap (λ (b : Bool). round binary32 (unlike s b) (m * up e * (n * up d)) (down e * down d)) (q .0)
+    ∙ round-same binary32 (unlike s r) (m * up e * (n * up d)) (down e * down d) (u * v) (L * L)
+    (mul-pos (down-pos e) (down-pos d)) (mul-pos (pow-pos 149) (pow-pos 149))
+    (mul-mul-mul-comm (m * up e) (n * up d) L L ∙ ap (λ (z : ℕ). z * (n * up d * L)) (p .1)
+    ∙ ap (λ (z : ℕ). u * down e * z) (q .1) ∙ mul-mul-mul-comm u (down e) v (down d))
+
+square-units : (x : Float) (s : Bool) (u : ℕ) → HasValue x s u L → x ⊗ x ≡ round binary32 false (u * u) (L * L)
+square-units x s u p = mul-units x x s s u u p p ∙ ap (λ (b : Bool). round binary32 b (u * u) (L * L)) (like s)
   where
     like : (s : Bool) → unlike s s ≡ false
     like true = refl
@@ -76,42 +83,59 @@ square-large u r h = inr (le-of-not-lt (λ (l : u * u < 2 ^ 23 * L).
     small : u ≤ most → rnd (u * u) L ≤ rnd (most * most) L
     small g = rnd-mono (u * u) L (most * most) L (pow-pos 149) (pow-pos 149) (mul-le-mul-right L (mul-le-mul g g))
 
+-- ---- multiplied
+-- a product of n units squared is none, or at least 2 ^ -126
+abbrev Normal : ℕ → Type 0
+Normal n = (n ≡ 0) ⊎ (2 ^ 23 * L ≤ n)
+
+round-scaled : (n t : ℕ) → Normal n → rnd (n * 2 ^ t * L) (L * L) ≡ rnd (n * L) (L * L) * 2 ^ t
+round-scaled n t (inl z) =
+    ap (λ (n : ℕ). rnd (n * 2 ^ t * L) (L * L)) z
+    ∙ ap (λ (n : ℕ). rnd (n * L) (L * L)) (zero-mul (2 ^ t))
+    ∙ rnd-none
+    ∙ sym (ap (λ (n : ℕ). rnd (n * L) (L * L) * 2 ^ t) z ∙ ap (λ (n : ℕ). n * 2 ^ t) rnd-none ∙ zero-mul (2 ^ t))
+  where
+    rnd-none : rnd 0 (L * L) ≡ 0
+    rnd-none = rnd-fix 0 (L * L) (mul-pos (pow-pos 149) (pow-pos 149)) (0, 0, lit< tt, refl)
+round-scaled n t (inr l) =
+    grid-scale binary32 n (L * L) t (mul-pos (pow-pos 149) (pow-pos 149))
+    (normal-of-fraction binary32 n (L * L) (mul-pos (pow-pos 149) (pow-pos 149))
+    (le-trans (le-of-eq (sym (mul-assoc (2 ^ 23) L L))) (mul-le-mul-right L l)))
+
+-- what rounds n and n * 2 ^ t of them
+round-times : (t : ℕ) (x y : Float) (s : Bool) (n : ℕ) → Normal n → x ≡ round binary32 s n (L * L)
+    → y ≡ round binary32 s (n * 2 ^ t) (L * L) → T (finite x) → T (finite y) → Times t x y
+round-times t x y s n h small large f g = record {
+  sign = s;
+  units = rnd (n * L) (L * L);
+  small =
+      subst (λ (z : Float). HasValue z s (rnd (n * L) (L * L)) L) (sym small)
+      (round-value s n (L * L) (subst (λ (z : Float). T (finite z)) small f));
+  large =
+      subst (λ (z : Float). HasValue z s (rnd (n * L) (L * L) * 2 ^ t) L) (sym large)
+      (subst (λ (w : ℕ). HasValue (round binary32 s (n * 2 ^ t) (L * L)) s w L) (round-scaled n t h)
+      (round-value s (n * 2 ^ t) (L * L) (subst (λ (z : Float). T (finite z)) large g)));
+}
+
 pub square-times : (t : ℕ) (x y : Float) (p : Times t x y) → Squared (p .units) → T (finite (x ⊗ x))
     → T (finite (y ⊗ y)) → Times (t + t) (x ⊗ x) (y ⊗ y)
 square-times t x y p h f g =
     let u = p .units in
-    let n = u * u in
-    let M = L * L in
-    let small : x ⊗ x ≡ round binary32 false n M = square-units x (p .sign) u (p .small) in
-    let large : y ⊗ y ≡ round binary32 false (n * 2 ^ (t + t)) M =
-    square-units y (p .sign) (u * 2 ^ t) (p .large)
-    ∙ ap (λ (w : ℕ). round binary32 false w M)
-    (mul-mul-mul-comm u (2 ^ t) u (2 ^ t) ∙ ap (λ (w : ℕ). n * w) (sym (pow-add 2 t t)))
-    in
-    record {
-      sign = false;
-      units = rnd (n * L) M;
-      small =
-          subst (λ (z : Float). HasValue z false (rnd (n * L) M) L) (sym small)
-          (round-value false n M (subst (λ (z : Float). T (finite z)) small f));
-      large =
-          subst (λ (z : Float). HasValue z false (rnd (n * L) M * 2 ^ (t + t)) L) (sym large)
-          (subst (λ (w : ℕ). HasValue (round binary32 false (n * 2 ^ (t + t)) M) false w L) (scaled h)
-          (round-value false (n * 2 ^ (t + t)) M (subst (λ (z : Float). T (finite z)) large g)));
-    }
+    round-times (t + t) (x ⊗ x) (y ⊗ y) false (u * u) (normal h) (square-units x (p .sign) u (p .small))
+    (square-units y (p .sign) (u * 2 ^ t) (p .large)
+    ∙ ap (λ (w : ℕ). round binary32 false w (L * L))
+    (mul-mul-mul-comm u (2 ^ t) u (2 ^ t) ∙ ap (λ (w : ℕ). u * u * w) (sym (pow-add 2 t t)))) f g
   where
-    rnd-none : rnd 0 (L * L) ≡ 0
-    rnd-none = rnd-fix 0 (L * L) (mul-pos (pow-pos 149) (pow-pos 149)) (0, 0, lit< tt, refl)
+    normal : Squared (p .units) → Normal (p .units * p .units)
+    normal (inl z) = inl (ap (λ (u : ℕ). u * u) z)
+    normal (inr l) = inr l
 
-    scaled : Squared (p .units)
-        → rnd (p .units * p .units * 2 ^ (t + t) * L) (L * L) ≡ rnd (p .units * p .units * L) (L * L) * 2 ^ (t + t)
-    scaled (inl z) =
-        ap (λ (u : ℕ). rnd (u * u * 2 ^ (t + t) * L) (L * L)) z
-        ∙ ap (λ (n : ℕ). rnd (n * L) (L * L)) (zero-mul (2 ^ (t + t)))
-        ∙ rnd-none
-        ∙ sym (ap (λ (u : ℕ). rnd (u * u * L) (L * L) * 2 ^ (t + t)) z
-        ∙ ap (λ (n : ℕ). n * 2 ^ (t + t)) rnd-none ∙ zero-mul (2 ^ (t + t)))
-    scaled (inr l) =
-        grid-scale binary32 (p .units * p .units) (L * L) (t + t) (mul-pos (pow-pos 149) (pow-pos 149))
-        (normal-of-fraction binary32 (p .units * p .units) (L * L) (mul-pos (pow-pos 149) (pow-pos 149))
-        (le-trans (le-of-eq (sym (mul-assoc (2 ^ 23) L L))) (mul-le-mul-right L l)))
+-- the product with one and the same number
+pub factor-times : (t : ℕ) (x y c : Float) (r : Bool) (v : ℕ) (p : Times t x y) → HasValue c r v L
+    → 2 ^ 23 * L ≤ p .units * v → T (finite (x ⊗ c)) → T (finite (y ⊗ c)) → Times t (x ⊗ c) (y ⊗ c)
+factor-times t x y c r v p q l f g =
+    let u = p .units in
+    round-times t (x ⊗ c) (y ⊗ c) (unlike (p .sign) r) (u * v) (inr l)
+    (mul-units x c (p .sign) r u v (p .small) q)
+    (mul-units y c (p .sign) r (u * 2 ^ t) v (p .large) q
+    ∙ ap (λ (w : ℕ). round binary32 (unlike (p .sign) r) w (L * L)) (mul-right-comm u (2 ^ t) v)) f g

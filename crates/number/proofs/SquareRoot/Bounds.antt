@@ -6,14 +6,14 @@ use Prim.Native.Nat.{ℕ, _+_, _-_, _*_, _/_, _^_, _≤_, _<_, zero-le}
 use native.Mathlib.Nat.{le-trans, le-of-eq, le-of-lt, lt-of-lt-of-le, lt-of-le-of-lt, not-le-of-lt, mul-comm, mul-one}
 use native.Mathlib.Nat.{one-mul, mul-sub, mul-assoc, mul-mul-mul-comm, mul-pos, mul-le-mul-right, mul-le-mul-left}
 use native.Mathlib.Omega.{arith}
-use lib.Dec.{T, lt→ltb, lit<}
+use lib.Dec.{T, lt→ltb, lit<, lit≤}
 use lib.Pow.{pow-add, pow-pos, pow-mono, pow-lt, shl-lt}
-use lib.Ieee.{Float, fin, binary32, lt, fits, ofBits}
+use lib.Ieee.{Float, nan, inf, fin, binary32, lt, fits, ofBits}
 use lib.Ieee.Bits.{ofBits-fits}
 use Rattle.number.specs.Number.{zero32, isFinite, unitsOf, twiceRootSquared, rootOf}
 use Rattle.number.specs.Inner.{wholeOf}
 use Rattle.number.proofs.Numbers.{le-of-not-lt, square-back}
-use Rattle.number.proofs.Units.{L, Top, Is, Unit32, plus, zero-is, says-lt}
+use Rattle.number.proofs.Units.{L, Top, Is, Unit32, fit, plus, zero-is, says-lt}
 use Rattle.number.proofs.Products.{Root}
 use Rattle.number.proofs.Within.{Within, within-finite, within-units, units-within}
 use Rattle.number.proofs.Ranges.{power}
@@ -187,3 +187,17 @@ root-within a x l f h = go (lt zero32 x) refl
     go : (b : Bool) → lt zero32 x ≡ b → Within a (rootOf x)
     go true e = above-within a x l f (subst T (sym e) tt) h
     go false e = subst (Within a) (not-above x e) (zero-within a)
+
+-- of any f32, a root is at most 2 ^ 64
+pub root-any : (x : Float) → T (fits binary32 x) → Within 64 (rootOf x)
+unfolding isFinite
+root-any x f = go (isFinite x) refl
+  where
+    below : (x : Float) → T (fits binary32 x) → T (isFinite x) → Within 128 x
+    below nan f h = absurd h
+    below (inf s) f h = absurd h
+    below (fin s m e) f h = le-of-lt (fit s m e f .high)
+
+    go : (b : Bool) → isFinite x ≡ b → Within 64 (rootOf x)
+    go true e = root-within 64 x (lit≤ tt) f (below x f (subst T (sym e) tt))
+    go false e = subst (Within 64) (not-finite x e) (zero-within 64)

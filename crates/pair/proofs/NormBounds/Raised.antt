@@ -8,12 +8,10 @@ use lib.Dec.{lit≤}
 use lib.Pow.{pow-pos}
 use Rattle.number.proofs.Rounding.{rnd, rnd-same}
 use Rattle.number.proofs.Units.Compared.{L}
+use Rattle.pair.proofs.Norms.{factor}
 use Rattle.number.proofs.Errors.{Off, rnd-off, squares, OfSum, OfRoot}
 
--- 1 + 2 ^ -21 in units, and r units times it, rounded
-abbrev pub factor : ℕ
-factor = 2 ^ 149 + 2 ^ 128
-
+-- r units times 1 + 2 ^ -21, rounded
 abbrev pub product : ℕ → ℕ
 product r = rnd (r * factor) L
 
