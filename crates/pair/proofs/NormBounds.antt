@@ -78,7 +78,7 @@ module _ (x : List (List Float)) (split : ℕ) (h : T (boundedPoints x)) (f : Po
     reach = le-says leastSpeed source (2 ^ 89) r least-is source-is t
 
     norm-is : Is (normOf x split) (product r)
-    unfolding normOf size
+    unfolding normOf size ofBits unitsOf
     norm-is =
         subst (λ (n : Float). Is n (product r)) (sym (raised-large source not-less))
         (mul-is source upward r factor source-is upward-is under)

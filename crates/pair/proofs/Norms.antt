@@ -9,7 +9,7 @@ use lib.Dec.{T, lit≤, lit<}
 use lib.Ieee.{Float, binary32, lt, le, fits, ofBits}
 use lib.Ieee.Bits.{ofBits-fits}
 use lib.Ieee.Fits.{add-fits, mul-fits}
-use Rattle.number.specs.Number.{_⊖_, _⊗_, zero32, larger, leastSpeed, isFinite, admitted}
+use Rattle.number.specs.Number.{_⊖_, _⊗_, zero32, larger, leastSpeed, isFinite, unitsOf, admitted}
 use Rattle.number.proofs.Units.Compared.{Is}
 use Rattle.number.proofs.Units.{plus}
 use Rattle.number.proofs.Within.{Within, within-more, sub-within, mul-within, dot-within}
@@ -49,16 +49,16 @@ unfolding sourceNorm
 source-any x split = root-any (largestSquare x split) (square-fits x split)
 
 -- ---- raised
--- 2 ^ -60 and 1 + 2 ^ -21 in units
+-- 2 ^ -60 and the factor in units
 pub least-is : Is leastSpeed (2 ^ 89)
 unfolding ofBits
 least-is = refl
 
 abbrev pub factor : ℕ
-factor = 2 ^ 149 + 2 ^ 128
+factor = unitsOf upward
 
 pub upward-is : Is upward factor
-unfolding ofBits
+unfolding ofBits unitsOf
 upward-is = refl
 
 pub raised-small : (n : Float) → lt n leastSpeed ≡ true → raised n ≡ n

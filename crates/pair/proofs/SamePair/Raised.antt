@@ -8,7 +8,7 @@ use lib.Dec.{T, lit≤}
 use lib.IntN.{ℤ, pos, negsuc}
 use lib.Ieee.{Float, binary32, lt, fits, ofBits}
 use borrow.Author.Tests.{ltb-false}
-use Rattle.number.specs.Number.{_⊗_, leastSpeed}
+use Rattle.number.specs.Number.{_⊗_, leastSpeed, unitsOf}
 use Rattle.number.proofs.Units.Compared.{L, lt-is}
 use Rattle.number.proofs.Units.{plus}
 use Rattle.number.proofs.Within.{Within, within-finite, mul-within}
@@ -35,7 +35,7 @@ module _ (t : ℕ) (m n : Float) (p : Times t m n) (s : T (plus m)) (a : Within 
       (sym (lt-is m leastSpeed (p .units) (2 ^ 89) (value-plus m (p .sign) (p .units) s (p .small)) least-is) ∙ h)
 
   upward-times : Times t (m ⊗ upward) (n ⊗ upward)
-  unfolding ofBits
+  unfolding ofBits unitsOf
   upward-times =
       factor-times t m n upward false factor p (refl, refl)
       (le-trans (lit≤ {m = 2 ^ 23 * L} tt) (mul-le-mul-right factor large))
