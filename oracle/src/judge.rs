@@ -1,10 +1,12 @@
 //! What an answer is held to: the original's where it answers, and the rule where that differs by design.
 //! Each intended difference is an entry of docs/DIFFERENCES.md; a difference with no entry fails.
 
+use crate::bounds::broken;
 use crate::calls::Call;
 use crate::cover::{self, Branch};
+use crate::exact::largest;
 use crate::functions::{Field, Function};
-use crate::model::{missing, Rules};
+use crate::model::{missing, Rules, SLOWEST};
 use crate::named::named;
 use crate::refusals::refusal_of;
 use crate::sides::{by_model, by_original, Outcome};
@@ -27,6 +29,7 @@ named! {
         Infinity: "infinity",
         PlusZero: "plus-zero",
         TouchingCount: "touching-count",
+        NormUpward: "norm-upward",
     }
 }
 
@@ -99,9 +102,12 @@ fn relation(call: &Call, refusal: u32, expected: &Words, original: &Outcome) -> 
     }
 }
 
-/// Where both answer: bit for bit, but for the sign of a zero time or root, the counts of a touching pair and a linear
-/// root at t below 1.
+/// Where both answer: bit for bit, but for the sign of a zero time or root, the counts of a touching pair, a linear
+/// root at t below 1 and a norm from 2^-60 up.
 fn answered(call: &Call, expected: &Words, original: &Words) -> Relation {
+    if call.function == Function::MaxRelativeNorm {
+        return norms(call, expected, original);
+    }
     let (ours, theirs) = (expected.as_slice(), original.as_slice());
     let times_or_roots = |field: &&Field| matches!(field.name, "time" | "roots" | "root");
     let signs_free = call.function.answer_fields().iter().find(times_or_roots).map_or(0..0, Field::places);
@@ -128,6 +134,17 @@ fn answered(call: &Call, expected: &Words, original: &Words) -> Relation {
         Relation::Listed(Entry::LinearRange)
     } else {
         Relation::Unlisted
+    }
+}
+
+/// A norm: the original's below 2^-60, else one that errs upward from the exact largest distance.
+fn norms(call: &Call, expected: &Words, original: &Words) -> Relation {
+    let norm = call.function.answer("norm").at;
+    let (ours, theirs) = (expected.number(norm), original.number(norm));
+    match broken(ours, theirs, &largest(&call.points("x"), call.word("split"))) {
+        Some(_) => Relation::Unlisted,
+        None if theirs < SLOWEST => Relation::Same,
+        None => Relation::Listed(Entry::NormUpward),
     }
 }
 

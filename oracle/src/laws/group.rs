@@ -21,12 +21,14 @@ named! {
     }
 }
 
-/// A call of a group: the pair itself, or what a law makes of it. Its norm is the pair's own times 2^k, where k is 0
-/// but under `Times`.
+/// A call of a group: the pair itself, or what a law makes of it. Its source norm is the pair's own times 2^k, where k
+/// is 0 but under `Times`. So is its norm, where it is not brought across 2^-60.
 pub struct Member {
     pub call: Call,
     pub law: Option<Law>,
     pub k: i32,
+    /// whether one of the two source norms is below 2^-60, and the other not
+    pub across: bool,
 }
 
 impl Asked for Member {
@@ -56,25 +58,26 @@ const FACE: [Order; 5] = [
 /// The pair with all that the laws make of it; it is multiplied where it is admitted and the condition holds.
 pub fn group(call: Call, powers: &[i32], cover: &mut Cover) -> Vec<Member> {
     let (x, split) = (call.points("x"), call.word("split"));
-    let of = |x: &Points, law, k| {
+    let of = |x: &Points, law| {
         let call = Call::new(Function::MaxRelativeNorm, Words::new().points(x).word(split));
-        Member { call, law: Some(law), k }
+        Member { call, law: Some(law), k: 0, across: false }
     };
     cover.note(Met::Itself);
-    let mut members = vec![Member { call, law: None, k: 0 }];
+    let mut members = vec![Member { call, law: None, k: 0, across: false }];
     let orders: &[Order] = if split == 2 { &EDGES } else { &FACE };
     for &(order, law, shows) in orders {
         cover.note(shows);
-        members.push(of(&order.map(|i| x[i]), law, 0));
+        members.push(of(&order.map(|i| x[i]), law));
     }
     cover.note(Met::Signs);
-    members.push(of(&x.map(|column| column.map(|n| -n)), Law::Signs, 0));
+    members.push(of(&x.map(|column| column.map(|n| -n)), Law::Signs));
     match Rules::DOCUMENT.max_relative_norm(&x, split) {
         Ok(norm) => {
             cover.note_where(&[(norm == 0.0, Met::NormZero)]);
             let all = powers.iter().map(|&k| Multiplied::new(x, split, k));
-            let meant = all.filter(|both| cover.multiplied(both, norm));
-            members.extend(meant.map(|both| of(&both.y, Law::Times, both.k)));
+            let meant = all.filter(|both| cover.multiplied(both));
+            let member = |both: Multiplied| Member { k: both.k, across: both.across(), ..of(&both.y, Law::Times) };
+            members.extend(meant.map(member));
         }
         Err(refusal) => cover.refused(&x, split, refusal),
     }

@@ -9,9 +9,17 @@ use crate::pipes::Holder;
 use crate::refusals::refusal_of;
 use crate::words::{hex, Words};
 
+/// Which number a side answers. Both obey the laws, but for a norm that is brought across 2^-60.
+#[derive(Clone, Copy, PartialEq, Eq)]
+pub enum Number {
+    Source,
+    Norm,
+}
+
 pub struct Held {
     /// whose answers they are
     whose: &'static str,
+    number: Number,
     /// the pair itself and its answer
     first: Option<(Call, Words)>,
     calls: u64,
@@ -20,8 +28,9 @@ pub struct Held {
 }
 
 impl Held {
-    pub fn new(whose: &'static str, quiet: bool) -> Held {
-        Held { whose, first: None, calls: 0, by_law: [0; LAWS.len()], differences: Differences::new(quiet) }
+    pub fn new(whose: &'static str, number: Number, quiet: bool) -> Held {
+        let differences = Differences::new(quiet);
+        Held { whose, number, first: None, calls: 0, by_law: [0; LAWS.len()], differences }
     }
 
     /// The laws that did not hold of all.
@@ -51,7 +60,8 @@ impl Holder<Member> for Held {
                 return;
             }
         };
-        if !stands(first, answer, member.k) {
+        let asked = self.number == Number::Source || !member.across;
+        if asked && !stands(first, answer, member.k) {
             self.by_law[law as usize] += 1;
             let line = |call: &Call, answer: &Words| format!("{} gives {}", call.hex(), hex(answer.as_slice()));
             let (pair, image) = (line(pair, first), line(&member.call, answer));
