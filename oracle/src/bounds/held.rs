@@ -59,7 +59,7 @@ impl Holder<Measured> for Held {
             self.by_bound[bound as usize] += 1;
             let Held { whose, differences, .. } = self;
             let line = || format!("{} gives {}", asked.call.hex(), hex(answer.as_slice()));
-            differences.add(|| format!("{whose}: not {}\n  {}", BOUNDS[bound as usize], line()));
+            differences.add(|| format!("{whose}: broken: {}\n  {}", BOUNDS[bound as usize], line()));
         }
     }
 

@@ -27,8 +27,6 @@ pub struct Member {
     pub call: Call,
     pub law: Option<Law>,
     pub k: i32,
-    /// whether one of the two source norms is below 2^-60, and the other not
-    pub across: bool,
 }
 
 impl Asked for Member {
@@ -58,26 +56,25 @@ const FACE: [Order; 5] = [
 /// The pair with all that the laws make of it; it is multiplied where it is admitted and the condition holds.
 pub fn group(call: Call, powers: &[i32], cover: &mut Cover) -> Vec<Member> {
     let (x, split) = (call.points("x"), call.word("split"));
-    let of = |x: &Points, law| {
+    let of = |x: &Points, law, k| {
         let call = Call::new(Function::MaxRelativeNorm, Words::new().points(x).word(split));
-        Member { call, law: Some(law), k: 0, across: false }
+        Member { call, law: Some(law), k }
     };
     cover.note(Met::Itself);
-    let mut members = vec![Member { call, law: None, k: 0, across: false }];
+    let mut members = vec![Member { call, law: None, k: 0 }];
     let orders: &[Order] = if split == 2 { &EDGES } else { &FACE };
     for &(order, law, shows) in orders {
         cover.note(shows);
-        members.push(of(&order.map(|i| x[i]), law));
+        members.push(of(&order.map(|i| x[i]), law, 0));
     }
     cover.note(Met::Signs);
-    members.push(of(&x.map(|column| column.map(|n| -n)), Law::Signs));
+    members.push(of(&x.map(|column| column.map(|n| -n)), Law::Signs, 0));
     match Rules::DOCUMENT.max_relative_norm(&x, split) {
         Ok(norm) => {
             cover.note_where(&[(norm == 0.0, Met::NormZero)]);
             let all = powers.iter().map(|&k| Multiplied::new(x, split, k));
             let meant = all.filter(|both| cover.multiplied(both));
-            let member = |both: Multiplied| Member { k: both.k, across: both.across(), ..of(&both.y, Law::Times) };
-            members.extend(meant.map(member));
+            members.extend(meant.map(|both| of(&both.y, Law::Times, both.k)));
         }
         Err(refusal) => cover.refused(&x, split, refusal),
     }

@@ -5,6 +5,7 @@ use super::group::{Member, LAWS};
 use crate::calls::Call;
 use crate::differences::Differences;
 use crate::functions::Function;
+use crate::model::SLOWEST;
 use crate::pipes::Holder;
 use crate::refusals::refusal_of;
 use crate::words::{hex, Words};
@@ -43,11 +44,21 @@ impl Held {
     }
 }
 
-/// Whether a norm is the first one times 2^k, and a refusal the same: bit for bit, the sign of a zero too.
-fn stands(first: &Words, answer: &Words, k: i32) -> bool {
+/// Whether an answer is the first one times 2^k, and a refusal the same: bit for bit, the sign of a zero too. Where 2^k
+/// brings a norm across 2^-60, one of the two is raised: it is not below what the other stands for, nor above that times
+/// 1 + 2^-20.
+fn stands(number: Number, first: &Words, answer: &Words, k: i32) -> bool {
     let norm = Function::MaxRelativeNorm.answer("norm").at;
-    let expected = exactly(first.number(norm), k);
-    refusal_of(answer) == refusal_of(first) && f64::from(answer.number(norm)).to_bits() == expected.to_bits()
+    let (before, after) = (first.number(norm), answer.number(norm));
+    let (expected, found) = (exactly(before, k), f64::from(after));
+    let across = number == Number::Norm && k != 0 && (before < SLOWEST) != (after < SLOWEST);
+    let (lower, raised) = if before < SLOWEST { (expected, found) } else { (found, expected) };
+    let as_it_is = if across {
+        lower <= raised && raised <= lower * (1.0 + 1.0 / 1_048_576.0)
+    } else {
+        found.to_bits() == expected.to_bits()
+    };
+    refusal_of(answer) == refusal_of(first) && as_it_is
 }
 
 impl Holder<Member> for Held {
@@ -60,8 +71,7 @@ impl Holder<Member> for Held {
                 return;
             }
         };
-        let asked = self.number == Number::Source || !member.across;
-        if asked && !stands(first, answer, member.k) {
+        if !stands(self.number, first, answer, member.k) {
             self.by_law[law as usize] += 1;
             let line = |call: &Call, answer: &Words| format!("{} gives {}", call.hex(), hex(answer.as_slice()));
             let (pair, image) = (line(pair, first), line(&member.call, answer));
