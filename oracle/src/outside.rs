@@ -37,7 +37,7 @@ pub const WAYS: [&str; 4] = ["NaN", "infinite", "below", "above"];
 pub fn ways(function: Function, place: usize) -> &'static [usize] {
     match allowed(function, place) {
         Allowed::Split => &[2, 3],
-        Allowed::Number(_, f32::MAX) => &[0, 1, 2],
+        Allowed::Number(_, high) if high == f32::MAX => &[0, 1, 2],
         Allowed::Number(..) => &[0, 1, 2, 3],
     }
 }

@@ -9,8 +9,7 @@ pub fn calls() -> impl Iterator<Item = Call> {
     let of = |function: Function| move |words: &&str| Call::new(function, Words::from_hex(words));
     let polynomials = POLYNOMIALS.iter().map(of(Function::CubicRootsInRangeZeroToT));
     let motions = MOTIONS.iter().map(of(Function::CoplanarTimeMat3x4));
-    let norms = NORMS.iter().map(of(Function::MaxRelativeNorm));
-    polynomials.chain(motions).chain(norms).chain(SAFE_TIMES.iter().map(of(Function::MaximumSafeTimeAccurate)))
+    polynomials.chain(motions).chain(SAFE_TIMES.iter().map(of(Function::MaximumSafeTimeAccurate)))
 }
 
 /// c0, c1, c2, c3, t and epsilon.
@@ -32,9 +31,6 @@ const MOTIONS: [&str; 1] = [
     "0 ab65e559 8e6de3e0 38a 8002520c 5070 17561f 16dae3cc 0 4870d35 0 0 \
      4f2aa3c ac94770f a97d4e3c 80004330 0 c782bfe7 43a63091 140f4bc3 bd8354b0 800eec9f 13d216c5 abc99dab",
 ];
-
-/// Twelve coordinates and the split.
-pub const NORMS: [&str; 1] = ["3f800000 3f800000 3f800000 3f800000 3f800000 3f800000 0 0 0 0 0 0 2"];
 
 /// Twelve coordinates, twelve displacements, the split, offset, clearance, max_t and u_max.
 pub const SAFE_TIMES: [&str; 9] = [
