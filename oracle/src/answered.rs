@@ -8,8 +8,8 @@ use crate::judge::{Entry, Relation};
 use crate::model::{missing, SLOWEST};
 use crate::words::Words;
 
-/// Bit for bit, but for the sign of a zero time or root, the counts of a touching pair, a linear root at t below 1 and a
-/// norm from 2^-60 up.
+/// The same bit for bit, but for the sign of a zero time or root, the counts of a touching pair, a linear root at t
+/// below 1 and a norm from 2^-60 up.
 pub fn answered(call: &Call, expected: &Words, original: &Words) -> Relation {
     if call.function == Function::MaxRelativeNorm {
         return norms(call, expected, original);

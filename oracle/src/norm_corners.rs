@@ -2,7 +2,17 @@
 
 use crate::corners::Corner;
 
-pub const CORNERS: [Corner; 9] = [
+/// A pair whose first side is one place, and the second another.
+macro_rules! two_places {
+    ($first:literal, $second:literal, edges) => {
+        concat!("max_relative_norm ", $first, " ", $first, " ", $second, " ", $second, " 2")
+    };
+    ($first:literal, $second:literal, face) => {
+        concat!("max_relative_norm ", $first, " ", $first, " ", $first, " ", $second, " 3")
+    };
+}
+
+pub const CORNERS: [Corner; 15] = [
     Corner { what: "the norm zero", call: "max_relative_norm 0 0 0 0 0 0 0 0 0 0 0 0 2", answer: "0 0" },
     Corner {
         what: "the source norm just below 2^-60",
@@ -44,5 +54,36 @@ pub const CORNERS: [Corner; 9] = [
         call: "max_relative_norm 49800000 49800000 49800000 49800000 49800000 49800000 \
                c9800000 c9800000 c9800000 c9800000 c9800000 c9800000 2",
         answer: "0 4a5db3de",
+    },
+    // the extremes that a search for them has found, about 2^-60, where squares underflow, and about 1
+    Corner {
+        what: "the norm nearest to the exact distance, 1 + 3.943·2^-24 times it",
+        call: two_places!("1f707e90 1d5f6580 1d89dfaa", "a171cbc0 2103020a 14920001", edges),
+        answer: "0 218ff56c",
+    },
+    Corner {
+        what: "the norm farthest from the exact distance, 1 + 12.054·2^-24 times it",
+        call: two_places!("216f078e 200023be 1d4c43b9", "9f94b248 2120db3b 102c8358", face),
+        answer: "0 21900401",
+    },
+    Corner {
+        what: "the nearest about 1, 1 + 3.949·2^-24 times it",
+        call: two_places!("3d303bf0 3b7f6480 3b882ee3", "bf75cfea 3f032209 b857dac0", face),
+        answer: "0 3f8ff56c",
+    },
+    Corner {
+        what: "the farthest about 1, 1 + 12.050·2^-24 times it",
+        call: two_places!("3eea1994 3d9c140a 3b2de913", "bd3a0178 3ea814e4 3ca0de45", edges),
+        answer: "0 3f100405",
+    },
+    Corner {
+        what: "a source norm of 1 - 3.509·2^-24 times the exact distance",
+        call: two_places!("117f72e6 219903cc 1e62bbdf", "9d85a14d 20474a1c 91f46e93", edges),
+        answer: "0 21801df3",
+    },
+    Corner {
+        what: "a source norm of 1 + 3.513·2^-24 times the exact distance",
+        call: two_places!("1e6327e2 2180080f 1fc570fb", "11fffffe 17e7ffff 1fcbbeec", face),
+        answer: "0 21800b54",
     },
 ];

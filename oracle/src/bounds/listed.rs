@@ -1,10 +1,10 @@
-//! Pairs that every run of the bounds begins with: the corners of the norm, rare pairs, what random ones hardly meet, and
-//! each number of a pair and its split outside their ranges in every way.
+//! Pairs that every run of the bounds begins with: the corners of the norm, what random ones hardly meet, and each
+//! number of a pair and its split outside their ranges in every way.
 
 use crate::calls::Call;
 use crate::corners;
 use crate::functions::Function;
-use crate::generate::{rare, Source};
+use crate::generate::Source;
 use crate::words::Words;
 
 /// A pair's twelve numbers and its split.
@@ -25,6 +25,6 @@ const LISTED: [&str; 6] = [
 pub fn listed(source: &mut Source) -> Vec<Call> {
     let of_norm = |call: &Call| call.function == Function::MaxRelativeNorm;
     let pair = |words: &&str| Call::new(Function::MaxRelativeNorm, Words::from_hex(words));
-    let known = corners::calls().chain(rare::calls()).filter(of_norm);
-    known.chain(LISTED.iter().map(pair)).chain(source.outside(Function::MaxRelativeNorm)).collect()
+    let corners = corners::calls().filter(of_norm);
+    corners.chain(LISTED.iter().map(pair)).chain(source.outside(Function::MaxRelativeNorm)).collect()
 }

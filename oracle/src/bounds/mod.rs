@@ -1,6 +1,6 @@
 //! The bounds of the norm (docs/TESTING.md, "Bounds"): each answered norm is held to the exact largest distance of the
-//! pair, and where the original's number is below 2^-60 to that number. How often the original's own number is below the
-//! exact distance is counted.
+//! pair, and where the original's number is below 2^-60 to that number. How often the original's own number is below
+//! the exact distance is counted.
 
 mod cover;
 mod extremes;

@@ -1,5 +1,5 @@
-//! Distances of given points in exact arithmetic: a length is a whole number of units of 2^-149, as every finite f32 is.
-//! Nothing here knows how a norm is computed.
+//! Distances of given points in exact arithmetic: a length is a whole number of units of 2^-149, as every finite f32
+//! is. Nothing here knows how a norm is computed.
 
 mod check;
 mod whole;
@@ -59,8 +59,8 @@ pub fn reaches(length: f32, square: &Whole) -> bool {
     compared(length, square) != Ordering::Less
 }
 
-/// Whether a length from zero up is not above the root of a square times 1 + 2^-20: whether its own square times 2^40 is
-/// not above the other times (2^20 + 1)^2.
+/// Whether a length from zero up is not above the root of a square times 1 + 2^-20: whether its own square times 2^40
+/// is not above the other times (2^20 + 1)^2.
 pub fn keeps_within(length: f32, square: &Whole) -> bool {
     let factor = Whole::new((1 << 20) + 1);
     squared(length).shifted(40) <= square.times(&factor.times(&factor))

@@ -7,7 +7,7 @@ mod norms;
 mod numbers;
 mod pairs;
 mod polynomials;
-pub mod rare;
+mod rare;
 mod safe_times;
 mod scalings;
 

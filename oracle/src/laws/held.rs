@@ -45,20 +45,20 @@ impl Held {
 }
 
 /// Whether an answer is the first one times 2^k, and a refusal the same: bit for bit, the sign of a zero too. Where 2^k
-/// brings a norm across 2^-60, one of the two is raised: it is not below what the other stands for, nor above that times
-/// 1 + 2^-20.
+/// brings a norm across 2^-60, one of the two is raised and the other stands: but for 2^k the raised one is not below the
+/// other, nor above that times 1 + 2^-20.
 fn stands(number: Number, first: &Words, answer: &Words, k: i32) -> bool {
     let norm = Function::MaxRelativeNorm.answer("norm").at;
     let (before, after) = (first.number(norm), answer.number(norm));
     let (expected, found) = (exactly(before, k), f64::from(after));
     let across = number == Number::Norm && k != 0 && (before < SLOWEST) != (after < SLOWEST);
-    let (lower, raised) = if before < SLOWEST { (expected, found) } else { (found, expected) };
-    let as_it_is = if across {
-        lower <= raised && raised <= lower * (1.0 + 1.0 / 1_048_576.0)
+    let (standing, raised) = if before < SLOWEST { (expected, found) } else { (found, expected) };
+    let multiplied = if across {
+        standing <= raised && raised <= standing * (1.0 + 1.0 / 1_048_576.0)
     } else {
         found.to_bits() == expected.to_bits()
     };
-    refusal_of(answer) == refusal_of(first) && as_it_is
+    refusal_of(answer) == refusal_of(first) && multiplied
 }
 
 impl Holder<Member> for Held {
