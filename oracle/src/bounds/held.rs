@@ -42,7 +42,7 @@ impl Held {
         match &asked.held_to {
             Err(refusal) if answer.as_slice() == [*refusal, 0] => None,
             Ok(sizes) if refusal_of(answer) == 0 => {
-                if sizes.source >= SLOWEST && norm.is_finite() {
+                if sizes.source >= SLOWEST && norm >= 0.0 && norm.is_finite() {
                     self.extremes.note(norm, &sizes.square, &asked.call);
                 }
                 broken(norm, sizes.source, &sizes.square)

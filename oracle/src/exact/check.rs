@@ -11,7 +11,7 @@ const MOST: i32 = 1 << 21;
 /// Whether all pairs are as they are in 128 bits.
 pub fn holds() -> bool {
     let mut source = Source::new(1);
-    (0..PAIRS).map(|_| agrees(&mut source)).fold(true, |so_far, this| so_far && this)
+    (0..PAIRS).all(|_| agrees(&mut source))
 }
 
 /// One pair and a length about its largest distance.
