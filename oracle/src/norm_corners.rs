@@ -57,14 +57,14 @@ pub const CORNERS: [Corner; 15] = [
     },
     // the extremes that a search for them has found, about 2^-60, where squares underflow, and about 1
     Corner {
-        what: "the norm nearest to the exact distance, 1 + 3.943·2^-24 times it",
-        call: two_places!("1f707e90 1d5f6580 1d89dfaa", "a171cbc0 2103020a 14920001", edges),
-        answer: "0 218ff56c",
+        what: "the norm nearest to the exact distance, 1 + 3.942·2^-24 times it",
+        call: two_places!("1fdf1ed0 20f7043f 11800000", "a16597cb 9ea40ea0 9dd027fc", edges),
+        answer: "0 218fea79",
     },
     Corner {
-        what: "the norm farthest from the exact distance, 1 + 12.054·2^-24 times it",
-        call: two_places!("216f078e 200023be 1d4c43b9", "9f94b248 2120db3b 102c8358", face),
-        answer: "0 21900401",
+        what: "the norm farthest from the exact distance, 1 + 12.056·2^-24 times it",
+        call: two_places!("1dbeb840 218041e5 1fa3c151", "a1009849 1cb2e9ff 137fffff", face),
+        answer: "0 219003f9",
     },
     Corner {
         what: "the nearest about 1, 1 + 3.949·2^-24 times it",
