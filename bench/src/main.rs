@@ -14,7 +14,7 @@ use distance::{EdgeEdge, FaceVertex};
 use inputs::{queries, End, Query, Source};
 use original::ccd3::{self, SquareDistance};
 use original::polynomial_root as polynomial;
-use urtemval::Split;
+use urtemval::{Refusal, Split};
 
 const ROUNDS: usize = 41;
 /// The least time of one side's part of a round, in seconds.
@@ -33,8 +33,23 @@ where
     T: 'static,
     A: PartialEq + std::fmt::Debug + 'static,
 {
+    line_where(inputs, ours, rust, |a, b| a == b)
+}
+
+/// A line over inputs for which the answers, ours first, agree in this way.
+fn line_where<T, A>(
+    inputs: Vec<T>,
+    ours: impl Fn(&T) -> A + 'static,
+    rust: impl Fn(&T) -> A + 'static,
+    agree: fn(&A, &A) -> bool,
+) -> Line
+where
+    T: 'static,
+    A: std::fmt::Debug + 'static,
+{
     for input in &inputs {
-        assert_eq!(ours(input), rust(input), "the two sides differ");
+        let (a, b) = (ours(input), rust(input));
+        assert!(agree(&a, &b), "the two sides differ: {a:?} and {b:?}");
     }
     let (calls, inputs) = (inputs.len(), Rc::new(inputs));
     let all = |inputs: Rc<Vec<T>>, side: Box<dyn Fn(&[T])>| Box::new(move || side(&inputs));
@@ -112,11 +127,20 @@ fn quadratic() -> Line {
 fn norm() -> Line {
     let mut source = Source::new();
     let displacements = (0..4000).map(|_| source.pair(Split::EdgeEdge).1).collect();
-    line(
+    line_where(
         displacements,
-        |dx| urtemval::max_relative_norm(dx, Split::EdgeEdge).map(f32::to_bits),
-        |dx| Ok(ccd3::max_relative_norm::<f32, 2>(dx).to_bits()),
+        |dx| urtemval::max_relative_norm(dx, Split::EdgeEdge),
+        |dx| Ok(ccd3::max_relative_norm::<f32, 2>(dx)),
+        errs_upward,
     )
+}
+
+/// Whether our norm is not below the Rust's, nor above that times 1 + 2^-20.
+fn errs_upward(ours: &Result<f32, Refusal>, rust: &Result<f32, Refusal>) -> bool {
+    match (ours, rust) {
+        (Ok(ours), Ok(rust)) => rust <= ours && f64::from(*ours) <= f64::from(*rust) * (1.0 + 1.0 / 1_048_576.0),
+        _ => false,
+    }
 }
 
 fn scaling() -> Line {

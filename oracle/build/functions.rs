@@ -12,9 +12,15 @@ pub fn make(out: &Path) {
     let (mut variants, mut rows) = (Vec::new(), Vec::new());
     for (i, line) in lines.enumerate() {
         let parts: Vec<&str> = line.split(" | ").collect();
-        let &[head, call, answer] = &parts[..] else { panic!("calls.txt: `{line}` has no three parts") };
+        let (head, call, answer) = match parts[..] {
+            [head, call, answer] => (head, call, answer),
+            _ => panic!("calls.txt: `{line}` has no three parts"),
+        };
         let words: Vec<&str> = head.split(' ').collect();
-        let &[number, name, _] = &words[..] else { panic!("calls.txt: `{head}` is no number and two names") };
+        let (number, name) = match words[..] {
+            [number, name, _] => (number, name),
+            _ => panic!("calls.txt: `{head}` is no number and two names"),
+        };
         assert_eq!(number, (i + 1).to_string(), "calls.txt: the number of {name}");
         variants.push(camel(name));
         rows.push(format!("Row {{ name: {name:?}, arguments: &[{}], answer: &[{}] }}", fields(call), fields(answer)));

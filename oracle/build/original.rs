@@ -68,8 +68,9 @@ pub fn cut(out: &Path) {
 fn item(text: &str, start: &str, name: &str) -> String {
     let lines: Vec<&str> = text.lines().collect();
     let places: Vec<usize> = (0..lines.len()).filter(|&i| lines[i].starts_with(start)).collect();
-    let &[first] = &places[..] else {
-        panic!("{name}: {} items begin with `{start}`, not one", places.len());
+    let first = match places[..] {
+        [first] => first,
+        _ => panic!("{name}: {} items begin with `{start}`, not one", places.len()),
     };
     let length =
         if lines[first].ends_with(';') { Some(0) } else { lines[first..].iter().position(|line| *line == "}") };

@@ -4,14 +4,15 @@
 use crate::calls::Call;
 use crate::judge::{judged, Relation};
 use crate::model::Rules;
+use crate::norm_corners;
 use crate::sides::by_model;
 use crate::words::hex;
 
 /// A corner: what it is, the call, the answer.
 pub struct Corner {
-    what: &'static str,
-    call: &'static str,
-    answer: &'static str,
+    pub what: &'static str,
+    pub call: &'static str,
+    pub answer: &'static str,
 }
 
 /// Two strips one unit long, the upper one at height 4 and coming down by 4; offset 0, clearance 1.
@@ -103,9 +104,14 @@ const CORNERS: [Corner; 23] = [
     Corner { what: "the same turned", call: passing!("40000000 0 bf800000 bf800000 0 0"), answer: "0 1 3ee575db 2 16" },
 ];
 
+/// All of them, those of the norm last.
+fn all() -> impl Iterator<Item = &'static Corner> {
+    CORNERS.iter().chain(&norm_corners::CORNERS)
+}
+
 /// The calls, for a run to begin with.
 pub fn calls() -> impl Iterator<Item = Call> {
-    CORNERS.iter().map(|corner| Call::from_text(corner.call))
+    all().map(|corner| Call::from_text(corner.call))
 }
 
 /// Whether the pair that slides and its double differ by the slack of coordinates alone: every length is doubled, and
@@ -140,5 +146,5 @@ pub fn hold() -> bool {
         }
         right
     };
-    CORNERS.iter().map(holds).fold(slack_alone(), |so_far, this| so_far && this)
+    all().map(holds).fold(slack_alone(), |so_far, this| so_far && this)
 }

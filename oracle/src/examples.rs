@@ -53,4 +53,6 @@ pub const EXAMPLES: &[(Entry, &str)] = &[
         "maximum_safe_time_accurate 0 0 0 0 0 0 0 0 3f800000 0 0 3f800000 0 0 0 0 0 0 0 0 0 0 0 0 \
          2 0 3f800000 3f800000 3f800000",
     ),
+    (Entry::NormUpward, "max_relative_norm 3f800000 0 0 0 0 0 0 0 0 0 0 0 2"),
+    (Entry::NormUpward, "max_relative_norm 3f800000 3f800000 0 0 0 0 0 0 0 0 0 0 2"),
 ];

@@ -1,12 +1,15 @@
 //! The Rust side of the tests. It makes calls, asks the original and a model of the rules, and judges the answers of
 //! the Rattle program (docs/TESTING.md).
 
+mod answered;
 mod ask;
+mod bounds;
 mod calls;
 mod compare;
 mod corners;
 mod cover;
 mod differences;
+mod exact;
 mod examples;
 mod faults;
 mod freeze;
@@ -16,6 +19,7 @@ mod judge;
 mod laws;
 mod model;
 mod named;
+mod norm_corners;
 mod outside;
 mod pipes;
 mod refusals;
@@ -35,7 +39,10 @@ oracle compare SEED CALLS ONLY [PROGRAM WORD..]
 oracle laws SEED PAIRS [PROGRAM WORD..]
                               the norm of each pair held to that of the same pair in other orders, with other signs
                               and times powers of two: the program's norms, the original's and the model's
-oracle faults SEED            the own test of the judge and of the laws, with planted faults
+oracle bounds SEED PAIRS [PROGRAM WORD..]
+                              the norm of each pair held to the exact largest distance: the program's, the model's; how
+                              far off the original's number is
+oracle faults SEED            the own test of the judge, of the laws and of the bounds, with planted faults
 oracle freeze FOLDER          writes the frozen list below FOLDER
 oracle frozen FOLDER          holds the frozen list below FOLDER to the one that freeze makes
 oracle ask FUNCTION WORD..    one call: the rules' answer and what the original does
@@ -60,6 +67,10 @@ fn main() -> ExitCode {
         },
         ["laws", seed, pairs, ..] => match (seed.parse(), pairs.parse()) {
             (Ok(seed), Ok(pairs)) => laws::report(&laws::Plan { seed, pairs }, &args[3..]),
+            _ => usage(),
+        },
+        ["bounds", seed, pairs, ..] => match (seed.parse(), pairs.parse()) {
+            (Ok(seed), Ok(pairs)) => bounds::report(&bounds::Plan { seed, pairs }, &args[3..]),
             _ => usage(),
         },
         ["faults", seed] => seed.parse().map_or_else(|_| usage(), faults::test),

@@ -5,7 +5,7 @@
 use crate::calls::Call;
 use crate::functions::Function;
 use crate::generate::neighbour;
-use crate::model::{BOUND, FASTEST};
+use crate::model::{BOUND, FASTEST, SLOWEST};
 use crate::words::NAN;
 
 pub enum Allowed {
@@ -24,7 +24,7 @@ pub fn allowed(function: Function, place: usize) -> Allowed {
         "t" if function == Function::CubicRootsInRangeZeroToT => (1.0e-45, 1.0),
         "t" | "max_t" | "ratio" => (0.0, 1.0),
         "s" | "epsilon" | "offset" | "clearance" => (0.0, BOUND),
-        "u_max" => (1.0 / FASTEST, FASTEST),
+        "u_max" => (SLOWEST, FASTEST),
         name => panic!("{}: it is not said what is allowed as {name}", function.name()),
     };
     Allowed::Number(low, high)
@@ -37,7 +37,7 @@ pub const WAYS: [&str; 4] = ["NaN", "infinite", "below", "above"];
 pub fn ways(function: Function, place: usize) -> &'static [usize] {
     match allowed(function, place) {
         Allowed::Split => &[2, 3],
-        Allowed::Number(_, f32::MAX) => &[0, 1, 2],
+        Allowed::Number(_, high) if high == f32::MAX => &[0, 1, 2],
         Allowed::Number(..) => &[0, 1, 2, 3],
     }
 }

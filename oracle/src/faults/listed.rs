@@ -1,10 +1,11 @@
 //! The planted faults: a rule that is changed, or answers that are changed after it.
 
 use super::norms;
+use crate::bounds::Bound;
 use crate::calls::Call;
 use crate::functions::Function;
 use crate::laws::Law;
-use crate::model::{Linear, Points, Rules};
+use crate::model::{Linear, Points, Rules, SLOWEST};
 use crate::refusals::refusal_of;
 use crate::words::Words;
 
@@ -14,12 +15,14 @@ pub struct Fault {
     pub rules: Rules,
     pub distort: fn(&Call, &mut Words),
     /// the laws of the norm that it breaks
-    pub breaks: &'static [Law],
+    pub laws: &'static [Law],
+    /// the bounds of the norm that it breaks
+    pub bounds: &'static [Bound],
 }
 
-pub const NONE: Fault = Fault { name: "none", rules: Rules::DOCUMENT, distort: |_, _| {}, breaks: &[] };
+pub const NONE: Fault = Fault { name: "none", rules: Rules::DOCUMENT, distort: |_, _| {}, laws: &[], bounds: &[] };
 
-pub const FAULTS: [Fault; 25] = [
+pub const FAULTS: [Fault; 29] = [
     Fault { name: "interior-of-edges-left-out", rules: Rules { left_out: [Some(4), None], ..Rules::DOCUMENT }, ..NONE },
     Fault { name: "edge-of-face-left-out", rules: Rules { left_out: [None, Some(2)], ..Rules::DOCUMENT }, ..NONE },
     Fault { name: "last-of-equals", rules: Rules { last_of_equals: true, ..Rules::DOCUMENT }, ..NONE },
@@ -41,19 +44,48 @@ pub const FAULTS: [Fault; 25] = [
     Fault { name: "last-halving-not-counted", distort: one_halving_fewer, ..NONE },
     Fault { name: "minus-zero-time", distort: minus_zero_time, ..NONE },
     Fault { name: "refused-pair-written", distort: refused_pair_written, ..NONE },
-    Fault { name: "norm-refused-by-column-0", distort: by_column_0, breaks: &[Law::Order, Law::Exchange], ..NONE },
-    of_norm("norm-of-column-0-alone", norms::column_0_alone, &[Law::Order, Law::Exchange]),
-    of_norm("norm-to-column-3-alone", norms::column_3_alone, &[Law::Order, Law::Exchange]),
-    of_norm("norm-of-columns-two-apart", norms::two_apart, &[Law::Order]),
-    of_norm("norm-of-the-first-side-larger", norms::first_larger, &[Law::Exchange]),
-    of_norm("norm-of-differences-above-zero", norms::above_zero, &[Law::Exchange, Law::Signs]),
-    of_norm("norm-of-sums-above-zero", norms::sum_above_zero, &[Law::Signs]),
-    of_norm("norm-with-a-slack", norms::with_slack, &[Law::Times]),
+    Fault {
+        name: "norm-refused-by-column-0",
+        distort: by_column_0,
+        laws: &[Law::Order, Law::Exchange],
+        bounds: &[Bound::Refusal],
+        ..NONE
+    },
+    of_columns("norm-of-column-0-alone", norms::column_0_alone, &[Law::Order, Law::Exchange], &LESS),
+    of_columns("norm-to-column-3-alone", norms::column_3_alone, &[Law::Order, Law::Exchange], &LESS),
+    of_columns("norm-of-columns-two-apart", norms::two_apart, &[Law::Order], &LESS),
+    of_columns("norm-of-the-first-side-larger", norms::first_larger, &[Law::Exchange], &LESS),
+    of_columns("norm-of-differences-above-zero", norms::above_zero, &[Law::Exchange, Law::Signs], &LESS),
+    of_columns("norm-of-sums-above-zero", norms::sum_above_zero, &[Law::Signs], &LESS),
+    of_columns("norm-with-a-slack", norms::with_slack, &[Law::Times], &[Bound::Upper, Bound::Source]),
+    raised("norm-of-the-source", SLOWEST, 1.0, &[], &[Bound::Lower]),
+    raised("norm-raised-too-little", SLOWEST, 1.0 + 1.0 / 8_388_608.0, &[], &[Bound::Lower]),
+    raised("norm-raised-too-much", SLOWEST, 1.0 + 10.0 / 8_388_608.0, &[Law::Times], &[Bound::Upper]),
+    raised("norm-raised-when-small", 0.0, Rules::DOCUMENT.raised_by, &[], &[Bound::Source]),
 ];
 
+/// What is broken by a norm that is too small.
+const LESS: [Bound; 2] = [Bound::Lower, Bound::Source];
+
 /// A norm that makes something else of two columns.
-const fn of_norm(name: &'static str, of_columns: fn(&Points, usize, usize) -> f32, breaks: &'static [Law]) -> Fault {
-    Fault { name, rules: Rules { of_columns, ..Rules::DOCUMENT }, breaks, ..NONE }
+const fn of_columns(
+    name: &'static str,
+    of_columns: fn(&Points, usize, usize) -> f32,
+    laws: &'static [Law],
+    bounds: &'static [Bound],
+) -> Fault {
+    Fault { name, rules: Rules { of_columns, ..Rules::DOCUMENT }, laws, bounds, ..NONE }
+}
+
+/// A norm that is raised from another number on, or by another factor.
+const fn raised(
+    name: &'static str,
+    raised_from: f32,
+    raised_by: f32,
+    laws: &'static [Law],
+    bounds: &'static [Bound],
+) -> Fault {
+    Fault { name, rules: Rules { raised_from, raised_by, ..Rules::DOCUMENT }, laws, bounds, ..NONE }
 }
 
 fn renumber(answer: &mut Words, from: u32, to: u32) {

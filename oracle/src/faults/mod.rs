@@ -1,5 +1,5 @@
 //! Planted faults: the model stands in for the program under test, with one thing wrong. The judge has to catch each,
-//! and the laws of the norm those that break one.
+//! and the laws and the bounds of the norm those that break one.
 
 mod listed;
 mod norms;
@@ -7,12 +7,13 @@ mod norms;
 use std::io::{Read, Write};
 
 use self::listed::{Fault, FAULTS, NONE};
+use crate::bounds::{self, BOUNDS};
 use crate::calls::{decode, BLOCK};
 use crate::compare;
 use crate::laws::{self, LAWS};
 use crate::sides::by_model;
 
-/// The calls by which the judge has to catch each fault, and the pairs by which the laws have to.
+/// The calls by which the judge has to catch each fault, and the pairs by which the laws and the bounds have to.
 const CALLS: u64 = 400_000;
 const PAIRS: u64 = 20_000;
 
@@ -39,12 +40,13 @@ pub fn stand_in(name: &str) {
     }
 }
 
-/// The own test of the judge and of the laws. Answers whether all is well.
+/// The own test of the judge, of the laws and of the bounds. Answers whether all is well.
 pub fn test(seed: u64) -> bool {
     let all = || std::iter::once(&NONE).chain(&FAULTS);
     let judged = all().filter(|fault| !judge_catches(fault, seed)).count() == 0;
-    let of_norm = all().filter(|fault| fault.name == NONE.name || !fault.breaks.is_empty());
-    judged & (of_norm.filter(|fault| !laws_catch(fault, seed)).count() == 0)
+    let breaks = |fault: &Fault| !(fault.laws.is_empty() && fault.bounds.is_empty());
+    let of_norm = all().filter(|fault| fault.name == NONE.name || breaks(fault));
+    judged & (of_norm.filter(|fault| !(laws_catch(fault, seed) & bounds_catch(fault, seed))).count() == 0)
 }
 
 /// The words by which this program stands in with a fault.
@@ -74,9 +76,21 @@ fn judge_catches(fault: &Fault, seed: u64) -> bool {
 /// Whether the laws that the fault breaks are broken, and no other.
 fn laws_catch(fault: &Fault, seed: u64) -> bool {
     let held = laws::of_program(&laws::Plan { seed, pairs: PAIRS }, &program(fault));
-    let names: Vec<&str> = fault.breaks.iter().map(|&law| LAWS[law as usize]).collect();
-    let right = held.broken() == names && (held.differences.count() > 0) != names.is_empty();
+    let names: Vec<&str> = fault.laws.iter().map(|&law| LAWS[law as usize]).collect();
+    breaks(fault, "laws", &held.broken(), &names, held.differences.count())
+}
+
+/// Whether the bounds that the fault breaks are broken, and no other.
+fn bounds_catch(fault: &Fault, seed: u64) -> bool {
+    let held = bounds::of_program(&bounds::Plan { seed, pairs: PAIRS }, &program(fault));
+    let names: Vec<&str> = fault.bounds.iter().map(|&bound| BOUNDS[bound as usize]).collect();
+    breaks(fault, "bounds", &held.broken(), &names, held.differences.count())
+}
+
+/// Whether what is broken is what has to be, and there are differences where something is.
+fn breaks(fault: &Fault, what: &str, broken: &[&str], names: &[&str], differences: u64) -> bool {
+    let right = broken == names && (differences > 0) != names.is_empty();
     let verdict = if right { "as it has to be" } else { "NOT AS IT HAS TO BE" };
-    println!("planted fault {}: laws broken: {:?}, {verdict}", fault.name, held.broken());
+    println!("planted fault {}: {what} broken: {broken:?}, {verdict}", fault.name);
     right
 }

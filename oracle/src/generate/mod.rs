@@ -2,6 +2,7 @@
 //! three of the functions that are called seldom, with something that is not allowed.
 
 mod arguments;
+mod hard;
 mod norms;
 mod numbers;
 mod pairs;
@@ -79,7 +80,10 @@ impl Source {
             Function::Centerize => Words::new().points(&self.motion(split).x),
             Function::ScaleInPlace => Words::new().points(&self.motion(split).x).numbers(&[self.length()]),
             Function::SquaredDistance => Words::new().points(&self.placed(split)).word(split),
-            Function::MaxRelativeNorm => Words::new().points(&self.placed(split)).word(split),
+            Function::MaxRelativeNorm => {
+                let x = if self.once_in(8) { self.about_least(split) } else { self.placed(split) };
+                Words::new().points(&x).word(split)
+            }
             Function::NormalizeCenterizedConfiguration => self.scaling(split),
             Function::QuadraticRoot => {
                 let c = self.polynomial().c;

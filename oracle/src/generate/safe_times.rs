@@ -3,11 +3,8 @@
 
 use super::numbers::{neighbour, Source};
 use super::rare;
-use crate::model::{Limits, Points, Rules, BOUND, FASTEST};
+use crate::model::{Limits, Points, Rules, BOUND, FASTEST, SLOWEST};
 use crate::words::Words;
-
-/// The least u_max, 2^-60.
-const SLOWEST: f32 = 1.0 / FASTEST;
 
 impl Source {
     pub fn safe_time(&mut self, split: u32) -> Words {

@@ -1,15 +1,16 @@
-//! Where multiplying all coordinates by 2^k multiplies the norm by 2^k: nothing that the norm computes is rounded
+//! Where multiplying all coordinates by 2^k multiplies the source norm by 2^k: nothing that it computes is rounded
 //! otherwise than before.
 
 use crate::generate::power_of_two;
-use crate::model::{Point, Points, BOUND};
+use crate::model::{cross, Point, Points, Rules, BOUND, SLOWEST};
 
-/// A pair and the same multiplied by 2^k.
+/// A pair and the same multiplied by 2^k, and the source norms of both.
 pub struct Multiplied {
     pub x: Points,
     pub y: Points,
     pub split: u32,
     pub k: i32,
+    pub norms: [f32; 2],
 }
 
 /// A part of the condition.
@@ -31,12 +32,6 @@ pub enum Part {
 
 const PARTS: [Part; 6] = [Part::Coordinates, Part::Products, Part::Differences, Part::Squares, Part::Sums, Part::Bound];
 
-/// The columns i before the split and j from it on.
-pub fn cross(x: &Points, split: u32) -> impl Iterator<Item = (Point, Point)> + '_ {
-    let (first, second) = x.split_at(split as usize);
-    first.iter().flat_map(move |&a| second.iter().map(move |&b| (a, b)))
-}
-
 /// The squares of the three differences.
 pub fn squares((a, b): (Point, Point)) -> Point {
     [0, 1, 2].map(|i| (a[i] - b[i]) * (a[i] - b[i]))
@@ -54,7 +49,15 @@ pub fn exactly(x: f32, k: i32) -> f64 {
 
 impl Multiplied {
     pub fn new(x: Points, split: u32, k: i32) -> Multiplied {
-        Multiplied { x, y: x.map(|column| column.map(|n| times(n, k))), split, k }
+        let y = x.map(|column| column.map(|n| times(n, k)));
+        let norms = [x, y].map(|points| Rules::DOCUMENT.source_norm(&points, split));
+        Multiplied { x, y, split, k, norms }
+    }
+
+    /// Whether one of the source norms is below 2^-60, and the other not.
+    pub fn across(&self) -> bool {
+        let [before, after] = self.norms;
+        (before < SLOWEST) != (after < SLOWEST)
     }
 
     /// Whether a number that is not zero has become zero.

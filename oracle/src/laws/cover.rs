@@ -1,7 +1,7 @@
 //! What a run of the laws met: each law by its kinds, and what the condition on powers of two is about.
 
-use super::condition::{cross, exactly, squares, Multiplied, Part};
-use crate::model::{Point, Points, Rules, BOUND};
+use super::condition::{exactly, squares, Multiplied, Part};
+use crate::model::{cross, Point, Points, Rules, BOUND, SLOWEST};
 use crate::named::{named, print, unmet};
 
 named! {
@@ -27,9 +27,13 @@ named! {
         TimesNorm: "times 2^k: the norm is zero",
         TimesBound: "times 2^k: a number comes to 2^20 in size",
         TimesLeast: "times 2^k: a square is 2^-126, before or after",
-        Rounded: "norm not multiplied: a product with 2^k is rounded, and normal; all else of the condition holds",
-        Vanished: "norm not multiplied: a product with 2^k is rounded to zero; all else of the condition holds",
-        Square: "norm not multiplied: a square is not normal; all else of the condition holds, but for the sums",
+        TimesStands: "times 2^k: both source norms are below 2^-60, and not zero",
+        TimesRaised: "times 2^k: both source norms are at least 2^-60",
+        UpAcross: "times 2^k: up across 2^-60, the source norm multiplied and the norm not",
+        DownAcross: "times 2^k: down across 2^-60, the source norm multiplied and the norm not",
+        Rounded: "source norm not multiplied: a product with 2^k is rounded, and normal; all else is as it has to be",
+        Vanished: "source norm not multiplied: a product with 2^k is rounded to zero; all else is as it has to be",
+        Square: "source norm not multiplied: a square is not normal; all else is as it has to be, but for the sums",
         RefusedNotFinite: "refused by 1",
         RefusedLimits: "refused by 2: a number",
         RefusedSplit: "refused by 2: the split",
@@ -58,12 +62,13 @@ impl Cover {
         shown.iter().filter(|(is_so, _)| *is_so).for_each(|&(_, met)| self.note(met));
     }
 
-    /// Notes what a multiplied pair of this norm shows. Answers whether the law says something of it.
-    pub fn multiplied(&mut self, both: &Multiplied, norm: f32) -> bool {
+    /// Notes what a multiplied pair shows. Answers whether the law says something of it.
+    pub fn multiplied(&mut self, both: &Multiplied) -> bool {
         let failing = both.failing();
+        let [before, after] = both.norms;
         if failing.is_empty() {
-            self.by_the_law(both, norm);
-        } else if f64::from(Rules::DOCUMENT.norm(&both.y, both.split)) != exactly(norm, both.k) {
+            self.by_the_law(both);
+        } else if f64::from(after) != exactly(before, both.k) {
             let (rounded, vanished) = (failing == [Part::Products], both.vanished());
             let of_squares = |part: &Part| matches!(part, Part::Squares | Part::Sums);
             self.note_where(&[
@@ -75,8 +80,10 @@ impl Cover {
         failing.is_empty()
     }
 
-    fn by_the_law(&mut self, both: &Multiplied, norm: f32) {
-        let &Multiplied { x, y, split, k } = both;
+    fn by_the_law(&mut self, both: &Multiplied) {
+        let &Multiplied { x, y, split, k, norms: [norm, after] } = both;
+        let answered = |x: &Points| Rules::DOCUMENT.norm(x, split);
+        let across = both.across() && f64::from(answered(&y)) != exactly(answered(&x), k);
         let any = |x: &Points, test: fn(f32) -> bool| x.iter().flatten().any(|&n| test(n));
         let equal = |(a, b): (Point, Point)| (0..3).any(|i| a[i] == b[i] && a[i] != 0.0);
         let least = |x: &Points| cross(x, split).any(|both| squares(both).contains(&f32::MIN_POSITIVE));
@@ -88,6 +95,10 @@ impl Cover {
             (norm == 0.0, Met::TimesNorm),
             (any(&y, |n| n.abs() == BOUND), Met::TimesBound),
             (least(&x) || least(&y), Met::TimesLeast),
+            (norm > 0.0 && norm.max(after) < SLOWEST, Met::TimesStands),
+            (norm.min(after) >= SLOWEST, Met::TimesRaised),
+            (across && k > 0, Met::UpAcross),
+            (across && k < 0, Met::DownAcross),
         ]);
         let powers = if norm == 0.0 { &mut self.powers[1..] } else { &mut self.powers[..] };
         powers.iter_mut().for_each(|(least, most)| (*least, *most) = (k.min(*least), k.max(*most)));

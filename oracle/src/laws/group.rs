@@ -21,8 +21,8 @@ named! {
     }
 }
 
-/// A call of a group: the pair itself, or what a law makes of it. Its norm is the pair's own times 2^k, where k is 0
-/// but under `Times`.
+/// A call of a group: the pair itself, or what a law makes of it. Its source norm is the pair's own times 2^k, where k
+/// is 0 but under `Times`. So is its norm, where it is not brought across 2^-60.
 pub struct Member {
     pub call: Call,
     pub law: Option<Law>,
@@ -73,7 +73,7 @@ pub fn group(call: Call, powers: &[i32], cover: &mut Cover) -> Vec<Member> {
         Ok(norm) => {
             cover.note_where(&[(norm == 0.0, Met::NormZero)]);
             let all = powers.iter().map(|&k| Multiplied::new(x, split, k));
-            let meant = all.filter(|both| cover.multiplied(both, norm));
+            let meant = all.filter(|both| cover.multiplied(both));
             members.extend(meant.map(|both| of(&both.y, Law::Times, both.k)));
         }
         Err(refusal) => cover.refused(&x, split, refusal),

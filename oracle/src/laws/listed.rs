@@ -9,7 +9,7 @@ use crate::words::Words;
 /// A pair's twelve numbers and its split, and the k of the powers 2^k by which it is multiplied.
 type Listed = (&'static str, &'static [i32]);
 
-const LISTED: [Listed; 11] = [
+const LISTED: [Listed; 15] = [
     // a = 2^-39 less its 2^24-th part on one side, b = 2^-39 on the other: b - a is 2^-63, its square 2^-126. At
     // k = -87 b becomes 2^-126, and so does a, rounded up: that is a normal number, and the difference is gone
     ("2bffffff 0 0 2bffffff 0 0 2c000000 0 0 2c000000 0 0 2", &[59, -87]),
@@ -23,6 +23,11 @@ const LISTED: [Listed; 11] = [
     // 3 on one side: at k = -64 its square is normal; at k = -75 it is not, and is rounded; at k = -152 3 becomes zero
     ("40400000 0 0 0 0 0 0 0 0 0 0 0 2", &[-64, -75, -152]),
     ("0 0 0 0 0 0 0 0 0 0 c0400000 0 3", &[-64, -75, -152]),
+    // 2^-60, the f32 below it, and 2^-61 and 3·2^-62 on one side: each brought across 2^-60, or kept on its side
+    ("21800000 0 0 0 0 0 0 0 0 0 0 0 2", &[1, -1, -2]),
+    ("0 0 0 0 217fffff 0 0 0 0 0 0 0 3", &[1, -1, -2]),
+    ("0 0 0 0 0 0 21000000 0 0 0 0 0 2", &[1, 2, -1]),
+    ("0 0 0 0 0 0 0 0 0 0 0 a1400000 3", &[1, 80, -1]),
     // a norm of zero: all numbers zero, of either sign; all columns alike, as far up and down as numbers go
     ("0 0 0 80000000 0 0 0 0 80000000 0 0 0 2", &[300, -300]),
     ("800000 0 0 800000 0 0 800000 0 0 800000 0 0 2", &[146, 147]),

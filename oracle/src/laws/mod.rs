@@ -1,6 +1,6 @@
 //! The laws of the norm (docs/TESTING.md, "Laws"): what a pair's norm has to do with that of the same pair in another
 //! order, with other signs, or multiplied by a power of two. Each side's answers are held to each other, and to nothing
-//! else: the program's, the original's and the model's.
+//! else: the program's, the original's and the model's. The original answers the source norm.
 
 mod condition;
 mod cover;
@@ -13,6 +13,7 @@ pub use self::held::Held;
 
 use self::cover::Cover;
 use self::group::{group, Member};
+use self::held::Number;
 use self::listed::listed;
 use crate::calls::Call;
 use crate::generate::Source;
@@ -40,16 +41,20 @@ impl Plan {
 struct Run {
     cover: Cover,
     model: Held,
-    /// the model's norm of any numbers, NaN and infinities too
+    /// the model's source norm of any numbers, NaN and infinities too
     of_any: Held,
     original: Held,
 }
 
 impl Run {
     fn new() -> Run {
-        let held = |whose| Held::new(whose, false);
-        let of_any = held("the model's norm of any numbers");
-        Run { cover: Cover::new(), model: held("the model"), of_any, original: held("the original") }
+        let held = |whose, number| Held::new(whose, number, false);
+        Run {
+            cover: Cover::new(),
+            model: held("the model", Number::Norm),
+            of_any: held("the model's source norm of any numbers", Number::Source),
+            original: held("the original", Number::Source),
+        }
     }
 
     /// A pair's group, with these sides' answers held.
@@ -60,8 +65,8 @@ impl Run {
             let answer = by_model(&Rules::DOCUMENT, &member.call);
             self.model.hold(member, &answer);
             if split == 2 || split == 3 {
-                let norm = Rules::DOCUMENT.norm(&member.call.points("x"), split);
-                self.of_any.hold(member, &Words::new().word(0).numbers(&[norm]));
+                let source = Rules::DOCUMENT.source_norm(&member.call.points("x"), split);
+                self.of_any.hold(member, &Words::new().word(0).numbers(&[source]));
             }
             if refusal_of(&answer) == 0 {
                 self.ask_original(member);
@@ -82,7 +87,7 @@ impl Run {
 pub fn of_program(plan: &Plan, program: &[String]) -> Held {
     let mut cover = Cover::new();
     let members = plan.pairs().flat_map(|(call, powers)| group(call, &powers, &mut cover));
-    pipes::ask(program, members, false, Held::new("the program", true))
+    pipes::ask(program, members, false, Held::new("the program", Number::Norm, true))
 }
 
 /// A run with what it met printed. Answers whether all is well: no difference, and nothing left out that it can meet.
@@ -93,7 +98,7 @@ pub fn report(plan: &Plan, program: &[String]) -> bool {
         plan.pairs().for_each(|pair| drop(run.group(pair)));
     } else {
         let members = plan.pairs().flat_map(|pair| run.group(pair));
-        sides.push(pipes::ask(program, members, false, Held::new("the program", false)));
+        sides.push(pipes::ask(program, members, false, Held::new("the program", Number::Norm, false)));
     }
     let Run { cover, model, of_any, original } = run;
     sides.extend([original, model, of_any]);

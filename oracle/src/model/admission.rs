@@ -1,7 +1,7 @@
 //! The numbers allowed (docs/01-scope.md, "What callers hand over"): refusal 1 where some number is NaN or infinite,
 //! else refusal 2 where one is beyond its range or the split is another number.
 
-use super::{Points, Refusal, BOUND, FASTEST};
+use super::{Points, Refusal, BOUND, FASTEST, SLOWEST};
 
 #[derive(Clone, Copy)]
 pub struct Admission {
@@ -47,7 +47,7 @@ impl Admission {
 
     /// u_max.
     pub fn speed(self, x: f32) -> Self {
-        self.number(x, 1.0 / FASTEST, FASTEST)
+        self.number(x, SLOWEST, FASTEST)
     }
 
     pub fn split(mut self, split: u32) -> Self {

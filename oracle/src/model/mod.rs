@@ -4,6 +4,7 @@
 
 mod admission;
 mod distance;
+mod norm;
 mod pair;
 mod roots;
 mod walk;
@@ -12,14 +13,22 @@ pub type Point = [f32; 3];
 pub type Points = [Point; 4];
 
 pub use distance::{dot, Distance};
-pub use pair::squared_difference;
+pub use norm::squared_difference;
 pub use roots::{missing, Coefficients, Linear, Roots};
 pub use walk::{Kind, Limits};
 
+/// The cross pairs: the columns i before the split, each with the columns j from it on.
+pub fn cross(x: &Points, split: u32) -> impl Iterator<Item = (Point, Point)> + '_ {
+    let (first, second) = x.split_at(split as usize);
+    first.iter().flat_map(move |&a| second.iter().map(move |&b| (a, b)))
+}
+
 /// The bound on coordinates, displacements, coefficients and lengths, 2^20.
 pub const BOUND: f32 = 1_048_576.0;
-/// The greatest u_max, 2^60; the least is its inverse.
+/// The greatest u_max, 2^60.
 pub const FASTEST: f32 = 1_152_921_504_606_846_976.0;
+/// The least u_max, 2^-60.
+pub const SLOWEST: f32 = 1.0 / FASTEST;
 
 /// Why nothing is answered: a number of the rules' table.
 pub type Refusal = u32;
@@ -49,6 +58,10 @@ pub struct Rules {
     pub root_off: u32,
     /// What the norm makes of two columns of a pair.
     pub of_columns: fn(&Points, usize, usize) -> f32,
+    /// The least source norm that is raised, 2^-60.
+    pub raised_from: f32,
+    /// The factor by which it is raised, 1 + 2^-21.
+    pub raised_by: f32,
 }
 
 impl Rules {
@@ -65,6 +78,8 @@ impl Rules {
         drops_repeated: false,
         root_off: 0,
         of_columns: squared_difference,
+        raised_from: SLOWEST,
+        raised_by: 1.0 + 1.0 / 2_097_152.0,
     };
 
     /// The square root of a number not below zero, correctly rounded; plus zero for an infinity.

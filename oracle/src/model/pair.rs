@@ -1,7 +1,6 @@
-//! Four points as a whole, the norm, the scaling and the coplanar times (docs/01-scope.md, "Square root and norm",
-//! "Scaling a pair", "Roots").
+//! Four points as a whole, the scaling and the coplanar times (docs/01-scope.md, "Scaling a pair", "Roots").
 
-use super::distance::{dot, minus};
+use super::distance::minus;
 use super::{admission::Admission, larger, Coefficients, Point, Points, Refusal, Roots, Rules};
 use crate::cover::{met, Branch};
 
@@ -21,12 +20,6 @@ fn scaled(x: &Points, s: f32) -> Points {
 
 fn all_finite(x: &Points) -> bool {
     x.iter().flatten().all(|n| n.is_finite())
-}
-
-/// The squared difference of two columns.
-pub fn squared_difference(x: &Points, i: usize, j: usize) -> f32 {
-    let d = minus(x[i], x[j]);
-    dot(d, d)
 }
 
 /// a0 (b1 c2 - b2 c1) + a1 (b2 c0 - b0 c2) + a2 (b0 c1 - b1 c0)
@@ -59,33 +52,6 @@ impl Rules {
     pub fn scale_in_place(&self, x: &Points, s: f32) -> Result<Points, Refusal> {
         Admission::new().points(x).length(s).done()?;
         Ok(scaled(x, s))
-    }
-
-    /// The root of the largest squared difference over columns before and from the split.
-    pub fn norm(&self, x: &Points, split: u32) -> f32 {
-        let split = split as usize;
-        let mut largest = 0.0;
-        for i in 0..split {
-            for j in split..4 {
-                let squared = (self.of_columns)(x, i, j);
-                if largest < squared {
-                    if largest != 0.0 {
-                        met(Branch::NormLater);
-                    }
-                    largest = squared;
-                }
-            }
-        }
-        if largest == 0.0 {
-            met(Branch::NormZero);
-        }
-        self.root(largest)
-    }
-
-    /// The public `max_relative_norm`.
-    pub fn max_relative_norm(&self, x: &Points, split: u32) -> Result<f32, Refusal> {
-        Admission::new().points(x).split(split).done()?;
-        Ok(self.norm(x, split))
     }
 
     /// The public `normalize_centerized_configuration`.

@@ -2,8 +2,8 @@
 
 use crate::calls::Call;
 use crate::functions::Function;
-use crate::judge::{judged, Relation};
-use crate::model::{Point, Rules};
+use crate::judge::{judged, Judged, Relation};
+use crate::model::Point;
 use crate::refusals::refusal_of;
 use crate::sides::KINDS;
 use crate::words::Words;
@@ -63,14 +63,26 @@ impl Scene {
         (2..=3).contains(&pair[0]) && pair[1..].iter().all(|&corner| (corner as usize) < self.points.len())
     }
 
-    /// The call that a pair asks. Its speed is the norm; where that refuses, the numbers of the pair will.
-    fn call(&self, pair: &[u32; 5]) -> Call {
+    /// The safe time that a pair asks. Its u_max is the norm, for the original too; where that refuses, the numbers of
+    /// the pair will.
+    fn safe_time(&self, pair: &[u32; 5]) -> Judged {
         let gathered = |of: &[Point]| [1, 2, 3, 4].map(|i| of[pair[i] as usize]);
-        let dx = gathered(&self.displacements);
-        let speed = Rules::DOCUMENT.max_relative_norm(&dx, pair[0]).unwrap_or(1.0);
-        let words = Words::new().points(&gathered(&self.points)).points(&dx).word(pair[0]);
-        Call::new(Function::MaximumSafeTimeAccurate, words.numbers(&self.limits).numbers(&[speed]))
+        let (x0, dx) = (gathered(&self.points), gathered(&self.displacements));
+        let norm = listed(Call::new(Function::MaxRelativeNorm, Words::new().points(&dx).word(pair[0])));
+        let u_max = match refusal_of(&norm.expected) {
+            0 => f32::from_bits(norm.word("norm")),
+            _ => 1.0,
+        };
+        let words = Words::new().points(&x0).points(&dx).word(pair[0]).numbers(&self.limits).numbers(&[u_max]);
+        listed(Call::new(Function::MaximumSafeTimeAccurate, words))
     }
+}
+
+/// The call judged: the rules' answer is the original's, or an entry says why it is not.
+fn listed(call: Call) -> Judged {
+    let asked = judged(call);
+    assert!(asked.relation != Relation::Unlisted, "the rule and the original differ: {}", asked.call.hex());
+    asked
 }
 
 /// The expected listing of a file.
@@ -84,8 +96,7 @@ pub fn listing(file: &[u8]) -> String {
     }
     let mut text = format!("pairs {}\n", scene.pairs.len());
     for (number, pair) in scene.pairs.iter().enumerate() {
-        let asked = judged(scene.call(pair));
-        assert!(asked.relation != Relation::Unlisted, "the rule and the original differ: {}", asked.call.hex());
+        let asked = scene.safe_time(pair);
         text += &match (refusal_of(&asked.expected), asked.expected.as_slice()) {
             (0, &[_, kind, time, probes, halvings]) => {
                 format!("{number} {} {time:08x} {probes} {halvings}\n", KINDS[kind as usize])
