@@ -63,9 +63,9 @@
 #define URTEMVAL_H
 
 /* The version of this header, and of the archive that was made beside it. */
-#define URTEMVAL_VERSION "0.2.0"
+#define URTEMVAL_VERSION "0.3.0"
 #define URTEMVAL_VERSION_MAJOR 0
-#define URTEMVAL_VERSION_MINOR 2
+#define URTEMVAL_VERSION_MINOR 3
 #define URTEMVAL_VERSION_PATCH 0
 
 #include <float.h>
@@ -225,9 +225,11 @@ UrtemvalSafeTime urtemval_safe_time(const UrtemvalPoints *x0, const UrtemvalPoin
 UrtemvalDistance urtemval_squared_distance(const UrtemvalPoints *x, size_t split) URTEMVAL_NOEXCEPT;
 
 /*
- * The largest distance between a point before the split and a point from it on. Of displacements it is the greatest
- * relative speed: u_max of a safe time, where it is not below 2^-60 (of a pair at rest it is 0). It is the same with the
- * points of a side in any order, with both edges exchanged, and with the sign of every number changed.
+ * The largest distance between a point before the split and a point from it on. It errs upward: an answer of 2^-60 or
+ * more is not below the exact largest distance of the given points, and not above it times 1 + 2^-20; a smaller one is
+ * rounded either way. Of displacements it is the greatest relative speed: u_max of a safe time, where it is not below
+ * 2^-60 (of a pair at rest it is 0). It is the same with the points of a side in any order, with both edges exchanged,
+ * and with the sign of every number changed.
  *
  * Refusals: 1 some number is NaN or an infinity; 2 one lies beyond its range, or the split is neither 2 nor 3.
  */

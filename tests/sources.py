@@ -239,13 +239,16 @@ def bodies(crate):
 
 
 def edited(edit, functions):
-    """The functions whose text an edit changes: the one around its line, or those that name the constant there."""
-    fields = dict(re.findall(r"^(file|old): *(.*)$", edit.read_text(), re.M))
-    path = CRATES / crate_of(edit) / fields["file"]
-    around = {key for key, text in functions.items() if key[0] == path and fields["old"] in text}
-    constant = re.match(r"const (\w+)", fields["old"])
-    if constant:
-        around = {key for key, text in functions.items() if occurs(constant[1], text)}
+    """The functions whose text an edit changes: those around its lines, or those that name the constant there. Of an edit
+    of code and definitions together it is the code."""
+    path, around = None, set()
+    for field, text in re.findall(r"^(file|old): *(.*)$", edit.read_text(), re.M):
+        if field == "file":
+            path = CRATES / crate_of(edit) / text
+        elif constant := re.match(r"const (\w+)", text):
+            around |= {key for key, body in functions.items() if occurs(constant[1], body)}
+        else:
+            around |= {key for key, body in functions.items() if key[0] == path and text in body}
     if not around:
         fault(name_of(edit), "its line stands in no function")
     return around

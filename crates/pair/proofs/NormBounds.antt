@@ -1,4 +1,4 @@
--- The norm errs upward (`ErrsUpward`; docs/01-scope.md, "Square root and norm"): where the source's norm is at least
+-- The norm errs upward (`ErrsUpward`; docs/01-scope.md, "Square root and norm"): where the source norm is at least
 -- 2 ^ -60, the norm is not below the exact largest distance, and not above it times 1 + 2 ^ -20. Assumes nothing.
 pub mod Largest
 pub mod Raised
@@ -6,12 +6,12 @@ use Prim.Native.Nat.{ℕ, _+_, _-_, _*_, _^_, _≤_, _<_}
 use native.Mathlib.Nat.{le-trans, lt-of-le-of-lt, mul-le-mul-right}
 use mathlib.Core.Path.{_≡_, refl, sym, subst}
 use mathlib.Core.Bool.{Bool, true, false, not}
-use mathlib.Core.List.{List}
+use mathlib.Core.List.{List, [], _∷_}
 use lib.Dec.{T, lit<}
 use lib.Pow.{pow-pos}
-use lib.Ieee.{Float, lt, le, size, ofBits}
+use lib.Ieee.{Float, binary32, lt, le, size, ofBits}
 use lib.Ieee.Bits.{is-true}
-use Rattle.number.specs.Number.{zero32, leastSpeed, unitsOf, refusalOf, valueOf, admitted, answered}
+use Rattle.number.specs.Number.{zero32, leastSpeed, unitsOf, isMinus, apart, refusalOf, valueOf, admitted, answered}
 use Rattle.number.proofs.Rounding.{rnd, rnd-mono}
 use Rattle.number.proofs.Units.Compared.{L, Is, le-says, says-le, same-test}
 use Rattle.number.proofs.Transitive.{lt-not-le}
@@ -31,7 +31,8 @@ use Rattle.geometry.proofs.Handed.{PointsFit}
 use Rattle.admission.specs.Admission.{boundedPoints, splitRefusal}
 use Rattle.admission.proofs.Admitted.{split-admits}
 use Rattle.pair.specs.Points.{largestSquare, largestExact, sourceNorm, upward, normOf}
-use Rattle.pair.specs.Points.{ErrsUpward}
+use Rattle.pair.specs.Points.{gapExact, zeros, ErrsUpward}
+use Rattle.geometry.specs.Geometry.{vec, crossPairs}
 use Rattle.pair.proofs.NormBounds.Largest.{Held, largest-held}
 use Rattle.pair.proofs.NormBounds.Raised.{product, product-grows, product-upward, product-little}
 use Rattle.pair.proofs.Norms.{square-fits, source-from, source-within, raised-small, raised-large, Real}
@@ -44,7 +45,7 @@ module _ (x : List (List Float)) (split : ℕ) (h : T (boundedPoints x)) (f : Po
   abbrev square : Float
   square = largestSquare x split
 
-  -- ---- where the source's norm is at least 2 ^ -60
+  -- ---- where the source norm is at least 2 ^ -60
   module _ (t : T (le leastSpeed source)) where
     not-less : lt source leastSpeed ≡ false
     not-less = go (lt source leastSpeed) refl
@@ -124,6 +125,16 @@ module _ (x : List (List Float)) (split : ℕ) (h : T (boundedPoints x)) (f : Po
         (product-little (r t) (reach t) (largestExact x split) (held t .0 * L) (held t .2) (near t));
     told = same-test (le leastSpeed (normOf x split)) (le leastSpeed source) told-back raised;
   }
+
+-- ---- the exact definition on a case: the differences (3, 4, 0), whose squared distance is 25
+abbrev three-four : List (List Float)
+three-four =
+    let n : ℕ → Float = ofBits binary32 in
+    vec (n 0x4040_0000) zero32 zero32 ∷ zeros ∷ zeros ∷ vec zero32 (n 0xc080_0000) zero32 ∷ []
+
+pub exact-corner : largestExact three-four 2 ≡ 25 * (L * L)
+unfolding largestExact gapExact apart unitsOf isMinus ofBits crossPairs
+exact-corner = refl
 
 -- ---- the clauses of the public call
 module _ (x : List (List Float)) (split : ℕ) (f : PointsFit x) where

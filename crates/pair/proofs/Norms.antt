@@ -1,6 +1,6 @@
 -- The norm of any four points has the sign plus, so it is not below zero; of points within the bound it is at most
 -- 2 ^ 23. Assumes nothing.
-use Prim.Native.Nat.{ℕ, _+_, _^_, _<_}
+use Prim.Native.Nat.{ℕ, _^_, _<_}
 use native.Mathlib.Omega.{arith}
 use mathlib.Core.Path.{_≡_, refl, ap, subst}
 use mathlib.Core.Bool.{Bool, true, false, cond}

@@ -1,4 +1,4 @@
--- Theorems of the source's norm and of the norm (docs/01-scope.md, "The same pair, written otherwise"). The same pair
+-- Theorems of the source norm and of the norm (docs/01-scope.md, "The same pair, written otherwise"). The same pair
 -- written otherwise (specs/SamePair.antt) has the same norms, whatever its numbers are, NaN and infinities included, and is
 -- refused alike. Multiplied by a power of two, exactly, it has its norms multiplied, exactly. Assumes nothing.
 pub mod Covered

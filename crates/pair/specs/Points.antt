@@ -31,7 +31,7 @@ centredIn x = admitted (pointsRefusal x) (centred x) x
 unfoldable pub scaledIn : List (List Float) → Float → List (List Float)
 scaledIn x s = admitted (factorRefusal x s) (scaled x s) x
 
--- ---- the source's norm: the root of the largest squared difference of two columns of a cross pair
+-- ---- the source norm: the root of the largest squared difference of two columns of a cross pair
 unfoldable pub gapSquare : List (List Float) → Cross → Float
 gapSquare x p = let gap = minus (col x (p .first)) (col x (p .second)) in dot gap gap
 
@@ -42,7 +42,7 @@ largestSquare x split =
 unfoldable pub sourceNorm : List (List Float) → ℕ → Float
 sourceNorm x split = rootOf (largestSquare x split)
 
--- ---- the norm errs upward: from 2 ^ -60 on it is the source's norm times 1 + 2 ^ -21
+-- ---- the norm errs upward: from 2 ^ -60 on it is the source norm times 1 + 2 ^ -21
 abbrev pub upward : Float
 upward = ofBits binary32 0x3f80_0004
 
@@ -63,7 +63,7 @@ unfoldable pub largestExact : List (List Float) → ℕ → ℕ
 largestExact x split =
     foldl (λ (most : ℕ) (p : Cross). cond (ltb most (gapExact x p)) (gapExact x p) most) 0 (crossPairs split)
 
--- what the norm of admitted points promises. Below 2 ^ -60 the source's norm stands; from there on the norm is not below
+-- what the norm of admitted points promises. Below 2 ^ -60 the source norm stands; from there on the norm is not below
 -- the exact largest distance and not above it times 1 + 2 ^ -20; and which of both it is, the norm itself tells.
 pub record ErrsUpward (x : List (List Float)) (split : ℕ) (n : Float) : Type 0 where
   pub stands : T (lt (sourceNorm x split) leastSpeed) → n ≡ sourceNorm x split

@@ -1,5 +1,5 @@
-// The largest distance between the two sides of a split (docs/01-scope.md, "Square root and norm"; ccd3.rs:
-// `max_relative_norm`).
+// The largest distance between the two sides of a split, as the source computes it, and with a margin above the exact
+// one (docs/01-scope.md, "Square root and norm"; ccd3.rs: `max_relative_norm`).
 ghost use mathlib.Core.Path.{_≡_};
 ghost use lib.Dec.{T};
 ghost use lib.Ieee.{le};
@@ -27,14 +27,14 @@ fn largest_square(x: [[f32; 3]; 4], split: usize) -> f32
     largest
 }
 
-// The source's norm: its root. Any points and any split are taken: the largest over no column at all is zero.
+// The source norm: its root. Any points and any split are taken: the largest over no column at all is zero.
 fn source_norm(x: [[f32; 3]; 4], split: usize) -> f32
     ensures { λ r. ⌜ r ≡ Def.sourceNorm x split ⌝ }
 {
     root::root(largest_square(x, split))
 }
 
-// The norm, which errs upward: the source's times 1 + 2^-21 where that is at least 2^-60.
+// The norm, which errs upward: from 2^-60 on it is the source norm times 1 + 2^-21.
 pub fn norm(x: [[f32; 3]; 4], split: usize) -> f32
     ensures { λ r. ⌜ r ≡ Def.normOf x split ⌝ }
 {

@@ -1,7 +1,8 @@
 // A test program: the corners of a pair's public calls, one a line (docs/01-scope.md, "Corners to check",
 // "Scaling a pair", "Refusal numbers"), and the same pair written otherwise. The lines that it must write are the
 // oracle's for the same calls (`oracle ask`, docs/TESTING.md): what the model of the rules gives, and the original
-// wherever it answers; norms of a NaN and of infinities, which a public call refuses, are 01-scope.md's rule.
+// wherever it answers; norms of 2^-60 and more, and those of a NaN and of infinities, which a public call refuses, are
+// 01-scope.md's rule.
 mod cases;
 mod otherwise;
 mod text;
@@ -71,6 +72,8 @@ fn measures() {
     cases::measured(b"edges, above the largest", lone(-ABOVE_BOUND), 2);
     cases::measured(b"face, largest", lone(BOUND), 3);
     cases::measured(b"face, smallest", lone(1.0e-45), 3);
+    cases::measured(b"edges, 2^-60", lone(8.673617379884035e-19), 2);
+    cases::measured(b"edges, below 2^-60", lone(8.6736168e-19), 2);
 }
 
 fn calls() {

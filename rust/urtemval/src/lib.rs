@@ -273,9 +273,11 @@ pub fn squared_distance(x: &Points, split: Split) -> Result<Distance, Refusal> {
     )
 }
 
-/// The largest distance between a point of the first side and a point of the second. Of displacements it is the
-/// greatest relative speed, right for `u_max` where it is not below [`LEAST_U_MAX`]. It is the same with the points of
-/// a side in any order, with both edges exchanged, and with the sign of every number changed.
+/// The largest distance between a point of the first side and a point of the second. It errs upward: an answer of 2^-60
+/// ([`LEAST_U_MAX`]) or more is not below the exact largest distance of the given points, and not above it times
+/// 1 + 2^-20; a smaller one is rounded either way. Of displacements it is the greatest relative speed, right for `u_max`
+/// where it is not below [`LEAST_U_MAX`]. It is the same with the points of a side in any order, with both edges
+/// exchanged, and with the sign of every number changed.
 ///
 /// # Errors
 ///
@@ -285,7 +287,9 @@ pub fn squared_distance(x: &Points, split: Split) -> Result<Distance, Refusal> {
 /// use urtemval::{max_relative_norm, Split};
 ///
 /// let dx = [[0.0; 3], [0.0, 0.0, 0.0], [0.0, 3.0, 4.0], [0.0, 1.0, 0.0]];
-/// assert_eq!(max_relative_norm(&dx, Split::EdgeEdge), Ok(5.0));
+/// let norm = max_relative_norm(&dx, Split::EdgeEdge)?;
+/// assert!(5.0 <= norm && norm < 5.00001);
+/// # Ok::<(), urtemval::Refusal>(())
 /// ```
 #[inline]
 pub fn max_relative_norm(x: &Points, split: Split) -> Result<f32, Refusal> {

@@ -6,8 +6,9 @@ use Prim.Native.Nat.{ℕ, _+_, _-_, _*_, _≤_, _<_}
 use native.Mathlib.Nat.{mul-one, mul-comm, mul-pos, mul-lt-mul-of-pos-right, lt-of-mul-lt-mul-right}
 use native.Mathlib.Nat.{add-mul, mul-sub}
 use native.Mathlib.Omega.{arith}
-use lib.Dec.{T, ltb, ltb→lt, nltb→le, lt→ltb}
+use lib.Dec.{T, ltb, ltb→lt, lt→ltb}
 use lib.Pow.{pow-pos}
+use borrow.Author.Tests.{ltb-true, ltb-false}
 use lib.Ieee.{Float, fin, binary32, up, down, round, neg, sum, sub, fits}
 use lib.Ieee.Exact.{HasValue}
 use lib.Ieee.Fits.{down-pos}
@@ -49,12 +50,12 @@ summed s a r b = go s r (ltb a b) (ltb b a) refl (λ p P. ltb-times a b p P) (λ
     -- one of both differences is zero
     first : (p : ℕ) → ltb a b ≡ false → a * p - b * p ≡ (a - b + (b - a)) * p
     first p e =
-        let l : b ≤ a = nltb→le a b (subst (λ (z : Bool). T (not z)) (sym e) tt) in
+        let l : b ≤ a = ltb-false a b e in
         take-times a b p ∙ ap (λ (z : ℕ). z * p) (omega arith)
 
     second : (p : ℕ) → ltb a b ≡ true → b * p - a * p ≡ (a - b + (b - a)) * p
     second p e =
-        let l : a < b = ltb→lt a b (subst T (sym e) tt) in
+        let l : a < b = ltb-true a b e in
         take-times b a p ∙ ap (λ (z : ℕ). z * p) (omega arith)
 
     tests : (s r : Bool) (p c : ℕ) (less more : Bool) → ltb (a * p) (b * p) ≡ less → ltb (b * p) (a * p) ≡ more

@@ -3,12 +3,13 @@
 use Prim.Native.Nat.{ℕ, _+_, _-_, _*_, _≤_, _<_, zero-le}
 use native.Mathlib.Nat.{le-of-lt, mul-le-mul-right}
 use native.Mathlib.Omega.{arith}
-use mathlib.Core.Path.{_≡_, refl, sym, subst}
-use mathlib.Core.Bool.{Bool, true, false, not, cond}
+use mathlib.Core.Path.{_≡_, refl, sym}
+use mathlib.Core.Bool.{Bool, true, false, cond}
 use mathlib.Core.List.{List}
-use lib.Dec.{T, ltb, ltb→lt, nltb→le, lit<, lit≤}
-use lib.Ieee.{Float, lt, le}
+use lib.Dec.{T, ltb, lit<, lit≤}
+use lib.Ieee.{Float, lt}
 use lib.Ieee.Exact.{HasValue}
+use borrow.Author.Tests.{ltb-true, ltb-false}
 use Rattle.number.specs.Number.{_⊕_, _⊖_, _⊗_, zero32, larger, apart}
 use Rattle.number.proofs.Rounding.{rnd}
 use Rattle.number.proofs.Units.Compared.{L, Is, lt-is}
@@ -41,18 +42,10 @@ held-larger a b m e (u, i, p) (v, j, q) = go (lt a b) (ltb m e) (sym (lt-is a b 
 
     go : (c d : Bool) → ltb u v ≡ c → ltb m e ≡ d → Held (cond c b a) (cond d e m)
     go true true s t = (v, j, q)
-    go true false s t = (
-      v,
-      j,
-      mixed (u * L) (v * L) m e L (times u v (le-of-lt (ltb→lt u v (subst T (sym s) tt))))
-          (nltb→le m e (subst (λ (z : Bool). T (not z)) (sym t) tt)) p q,
-    )
-    go false true s t = (
-      u,
-      i,
-      mixed (v * L) (u * L) e m L (times v u (nltb→le u v (subst (λ (z : Bool). T (not z)) (sym s) tt)))
-          (le-of-lt (ltb→lt m e (subst T (sym t) tt))) q p,
-    )
+    go true false s t =
+        (v, j, mixed (u * L) (v * L) m e L (times u v (le-of-lt (ltb-true u v s))) (ltb-false m e t) p q)
+    go false true s t =
+        (u, i, mixed (v * L) (u * L) e m L (times v u (ltb-false u v s)) (le-of-lt (ltb-true m e t)) q p)
     go false false s t = (u, i, p)
 
 -- ---- the points
