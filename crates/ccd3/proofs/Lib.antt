@@ -9,7 +9,6 @@ pub mod Kept
 pub mod Threshold
 pub mod Admitted
 pub mod Promises
-
 mod Tables
 mod HalvingLoop
 mod WalkLoop

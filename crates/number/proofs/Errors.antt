@@ -124,8 +124,7 @@ root-off n r h =
     let w = 2 ^ h .k in
     let l : 2 ^ 23 * w ≤ r = le-trans (mul-le-mul-right w (h .digits)) (le-of-eq (sym (h .is))) in
     let more = r * 2 + w in
-    let less = r * 2 - w in
-    (
+    let less = r * 2 - w in (
       from-less n (r * r) (less * less) (squares r less (2 ^ 24 - 1) (2 ^ 23) (narrow r w l)) (h .high),
       from-more n (r * r) (more * more) (squares more r (2 ^ 23) (2 ^ 24 + 1) (wide r w l)) (h .low),
     )
@@ -135,4 +134,3 @@ root-off n r h =
 
     narrow : (r w : ℕ) → 2 ^ 23 * w ≤ r → r * (2 ^ 24 - 1) ≤ (r * 2 - w) * 2 ^ 23
     narrow r w l = omega arith
-
