@@ -1,4 +1,4 @@
-//! The corners of the norm (docs/01-scope.md, "Square root and norm").
+//! The corners of the norm (docs/01-scope.md, "Square root and norm"), and the extremes that a search has found.
 
 use crate::corners::Corner;
 
@@ -55,7 +55,7 @@ pub const CORNERS: [Corner; 15] = [
                c9800000 c9800000 c9800000 c9800000 c9800000 c9800000 2",
         answer: "0 4a5db3de",
     },
-    // the extremes that a search for them has found, about 2^-60, where squares underflow, and about 1
+    // the extremes: about 2^-60, where squares underflow, and about 1
     Corner {
         what: "the norm nearest to the exact distance, 1 + 3.942·2^-24 times it",
         call: two_places!("1fdf1ed0 20f7043f 11800000", "a16597cb 9ea40ea0 9dd027fc", edges),

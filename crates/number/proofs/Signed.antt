@@ -1,5 +1,5 @@
--- A finite f32 of either sign as a sign and a whole number of units of 2 ^ -149 (`HasValue x s u L`): what is rounded,
--- and sums, of units. Assumes nothing.
+-- A finite f32 of either sign as a sign and a whole number of units of 2 ^ -149 (`HasValue x s u L`), and what is rounded
+-- to one. Assumes nothing.
 pub mod Sums
 use mathlib.Core.Path.{_≡_, refl, sym, ap, _∙_, subst}
 use mathlib.Core.Bool.{Bool, false, not, _||_, Bool·beq}

@@ -1,16 +1,17 @@
 -- The norm errs upward (`ErrsUpward`; docs/01-scope.md, "Square root and norm"): where the source norm is at least
--- 2 ^ -60, the norm is not below the exact largest distance, and not above it times 1 + 2 ^ -20. Assumes nothing.
+-- 2 ^ -60, the norm is not below the exact largest distance, and not above it times 1 + 2 ^ -20. With it the clauses of
+-- the public call. Assumes nothing.
 pub mod Largest
 pub mod Raised
 use Prim.Native.Nat.{ℕ, _+_, _-_, _*_, _^_, _≤_, _<_}
 use native.Mathlib.Nat.{le-trans, lt-of-le-of-lt, mul-le-mul-right}
 use mathlib.Core.Path.{_≡_, refl, sym, subst}
-use mathlib.Core.Bool.{Bool, true, false, not}
+use mathlib.Core.Bool.{Bool, true, false}
 use mathlib.Core.List.{List, [], _∷_}
-use lib.Dec.{T, lit<}
+use lib.Dec.{T, not-T, lit<}
 use lib.Pow.{pow-pos}
 use lib.Ieee.{Float, binary32, lt, le, size, ofBits}
-use lib.Ieee.Bits.{is-true}
+use lib.Ieee.Bits.{is-true, is-false}
 use Rattle.number.specs.Number.{zero32, leastSpeed, unitsOf, isMinus, apart, refusalOf, valueOf, admitted, answered}
 use Rattle.number.proofs.Rounding.{rnd, rnd-mono}
 use Rattle.number.proofs.Units.Compared.{L, Is, le-says, says-le, same-test}
@@ -48,11 +49,8 @@ module _ (x : List (List Float)) (split : ℕ) (h : T (boundedPoints x)) (f : Po
   -- ---- where the source norm is at least 2 ^ -60
   module _ (t : T (le leastSpeed source)) where
     not-less : lt source leastSpeed ≡ false
-    not-less = go (lt source leastSpeed) refl
-      where
-        go : (b : Bool) → lt source leastSpeed ≡ b → lt source leastSpeed ≡ false
-        go true e = absurd (lt-not-le source leastSpeed (subst T (sym e) tt) t)
-        go false e = e
+    not-less =
+        is-false (lt source leastSpeed) (not-T (lt source leastSpeed) (λ s. lt-not-le source leastSpeed s t))
 
     above-zero : T (lt zero32 square)
     unfolding sourceNorm le ofBits
@@ -108,13 +106,11 @@ module _ (x : List (List Float)) (split : ℕ) (h : T (boundedPoints x)) (f : Po
   stands t = raised-small source (is-true (lt source leastSpeed) t)
 
   told-back : T (le leastSpeed (normOf x split)) → T (le leastSpeed source)
-  told-back t = go (lt source leastSpeed) refl
-    where
-      go : (b : Bool) → lt source leastSpeed ≡ b → T (le leastSpeed source)
-      go true e = subst (λ (n : Float). T (le leastSpeed n)) (stands (subst T (sym e) tt)) t
-      go false e =
-          not-lt-le source leastSpeed (no-nan-le zero32 source (plus-up source (source-from x split .sign)) .1)
-          (no-nan-le leastSpeed (normOf x split) t .0) (subst (λ (b : Bool). T (not b)) (sym e) tt)
+  told-back t =
+      not-lt-le source leastSpeed (no-nan-le zero32 source (plus-up source (source-from x split .sign)) .1)
+      (no-nan-le leastSpeed (normOf x split) t .0)
+      (not-T (lt source leastSpeed) (λ s.
+      lt-not-le source leastSpeed s (subst (λ (n : Float). T (le leastSpeed n)) (stands s) t)))
 
   pub norm-upward : ErrsUpward x split (normOf x split)
   norm-upward = record {

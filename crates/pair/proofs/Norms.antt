@@ -1,5 +1,5 @@
--- The norm of any four points has the sign plus, so it is not below zero; of points within the bound it is at most
--- 2 ^ 23. Assumes nothing.
+-- The source norm and the norm of any four points have the sign plus, so that neither is below zero; the norm is the source
+-- norm, raised or not; of points within the bound it is at most 2 ^ 23. Assumes nothing.
 use Prim.Native.Nat.{ℕ, _^_, _<_}
 use native.Mathlib.Omega.{arith}
 use mathlib.Core.Path.{_≡_, refl, ap, subst}
@@ -100,16 +100,17 @@ unfolding ofBits
 upward-within = lit≤ tt
 
 module _ (x : List (List Float)) (h : T (boundedPoints x)) where
-  gap-within : (p : Cross) → p .first < 4 → p .second < 4 → Within 44 (gapSquare x p)
+  -- of the columns of a cross pair, the difference of two coordinates, and the squared difference
+  pub difference-within : (p : Cross) → p .first < 4 → p .second < 4 → (n : ℕ) → n < 3
+      → Within 21 (at (col x (p .first)) n ⊖ at (col x (p .second)) n)
+  difference-within p k l n m =
+      sub-within 20 (at (col x (p .first)) n) (at (col x (p .second)) n) (lit≤ tt) (points-within x h (p .first) n k m)
+      (points-within x h (p .second) n l m)
+
+  pub gap-within : (p : Cross) → p .first < 4 → p .second < 4 → Within 44 (gapSquare x p)
   unfolding gapSquare
   gap-within p k l =
-      let i = p .first in
-      let j = p .second in
-      let d : (n : ℕ) → n < 3 → Within 21 (at (col x i) n ⊖ at (col x j) n) = λ n m.
-      let near = points-within x h i n k m in
-      let far = points-within x h j n l m in
-      sub-within 20 (at (col x i) n) (at (col x j) n) (lit≤ tt) near far
-      in
+      let d = difference-within p k l in
       let d0 = d 0 (lit< tt) in
       let d1 = d 1 (lit< tt) in
       let d2 = d 2 (lit< tt) in

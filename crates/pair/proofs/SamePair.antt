@@ -142,7 +142,7 @@ multiplied-admitted k x split e h =
     (is-true (finitePoints y) (points-real y (e .limits)))
     ∙ ap (refusal true) (is-true (boundedPoints y && isSplit split) ranged)
 
--- so it is where each number is zero, or of size 2 ^ -40 to 2 ^ 20 before and after
+-- what is computed is exact where each number is zero, or of size 2 ^ -40 to 2 ^ 20 before and after
 pub ordinary-multiplied : (k : ℤ) (x : List (List Float)) (split : ℕ) → T (ofTwelve (ordinaryTimes k) x)
     → ExactTimes k x split
 ordinary-multiplied k x split h = ordinary-times k x h split

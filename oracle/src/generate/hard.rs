@@ -32,7 +32,7 @@ impl Source {
         self.apart_by(d, split)
     }
 
-    /// A pair whose source norm is a power of two, or nearly, or the square of it.
+    /// A pair of which the source norm or its square is a power of two, or nearly.
     fn about_a_power(&mut self, split: u32) -> Points {
         let power = power_of_two(self.between(-59, 18));
         let root = self.pick(&[1.0, 2.0f64.sqrt()]);

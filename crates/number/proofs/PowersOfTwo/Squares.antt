@@ -19,7 +19,7 @@ use Rattle.number.proofs.Numbers.{le-of-not-lt}
 use Rattle.number.proofs.Rounding.{rnd, Rep, rnd-mono, rnd-same, rnd-fix, rep-grid}
 use Rattle.number.proofs.Units.{L}
 use Rattle.number.proofs.Signed.{round-value}
-use Rattle.number.proofs.PowersOfTwo.Times.{Times}
+use Rattle.number.proofs.PowersOfTwo.Times.{Times, round-times}
 
 -- u units are at least 2 ^ -63, or none
 abbrev pub Squared : ℕ → Type 0
@@ -102,26 +102,12 @@ round-scaled n t (inr l) =
     (normal-of-fraction binary32 n (L * L) (mul-pos (pow-pos 149) (pow-pos 149))
     (le-trans (le-of-eq (sym (mul-assoc (2 ^ 23) L L))) (mul-le-mul-right L l)))
 
--- what rounds n and n * 2 ^ t of them
-round-times : (t : ℕ) (x y : Float) (s : Bool) (n : ℕ) → Normal n → x ≡ round binary32 s n (L * L)
-    → y ≡ round binary32 s (n * 2 ^ t) (L * L) → T (finite x) → T (finite y) → Times t x y
-round-times t x y s n h small large f g = record {
-  sign = s;
-  units = rnd (n * L) (L * L);
-  small =
-      subst (λ (z : Float). HasValue z s (rnd (n * L) (L * L)) L) (sym small)
-      (round-value s n (L * L) (subst (λ (z : Float). T (finite z)) small f));
-  large =
-      subst (λ (z : Float). HasValue z s (rnd (n * L) (L * L) * 2 ^ t) L) (sym large)
-      (subst (λ (w : ℕ). HasValue (round binary32 s (n * 2 ^ t) (L * L)) s w L) (round-scaled n t h)
-      (round-value s (n * 2 ^ t) (L * L) (subst (λ (z : Float). T (finite z)) large g)));
-}
-
 pub square-times : (t : ℕ) (x y : Float) (p : Times t x y) → Squared (p .units) → T (finite (x ⊗ x))
     → T (finite (y ⊗ y)) → Times (t + t) (x ⊗ x) (y ⊗ y)
 square-times t x y p h f g =
     let u = p .units in
-    round-times (t + t) (x ⊗ x) (y ⊗ y) false (u * u) (normal h) (square-units x (p .sign) u (p .small))
+    round-times (t + t) (x ⊗ x) (y ⊗ y) false (u * u) (L * L) (round-scaled (u * u) (t + t) (normal h))
+    (square-units x (p .sign) u (p .small))
     (square-units y (p .sign) (u * 2 ^ t) (p .large)
     ∙ ap (λ (w : ℕ). round binary32 false w (L * L))
     (mul-mul-mul-comm u (2 ^ t) u (2 ^ t) ∙ ap (λ (w : ℕ). u * u * w) (sym (pow-add 2 t t)))) f g
@@ -135,7 +121,7 @@ pub factor-times : (t : ℕ) (x y c : Float) (r : Bool) (v : ℕ) (p : Times t x
     → 2 ^ 23 * L ≤ p .units * v → T (finite (x ⊗ c)) → T (finite (y ⊗ c)) → Times t (x ⊗ c) (y ⊗ c)
 factor-times t x y c r v p q l f g =
     let u = p .units in
-    round-times t (x ⊗ c) (y ⊗ c) (unlike (p .sign) r) (u * v) (inr l)
+    round-times t (x ⊗ c) (y ⊗ c) (unlike (p .sign) r) (u * v) (L * L) (round-scaled (u * v) t (inr l))
     (mul-units x c (p .sign) r u v (p .small) q)
     (mul-units y c (p .sign) r (u * 2 ^ t) v (p .large) q
     ∙ ap (λ (w : ℕ). round binary32 (unlike (p .sign) r) w (L * L)) (mul-right-comm u (2 ^ t) v)) f g

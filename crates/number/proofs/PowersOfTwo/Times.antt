@@ -15,7 +15,7 @@ use lib.Ieee.Scale.{finite, grid-scale, normal-of-fraction}
 use Rattle.number.specs.Number.{_⊕_, _⊖_, zero32, larger, unitsApart}
 use Rattle.number.proofs.Rounding.{rnd, rnd-own}
 use Rattle.number.proofs.Units.{L, plus, lt-is}
-use Rattle.number.proofs.Signed.{rnd-whole, round-whole, value-neg, value-plus}
+use Rattle.number.proofs.Signed.{rnd-whole, round-value, value-neg, value-plus}
 use Rattle.number.proofs.Signed.Sums.{ltb-times, summed, sum-over, add-units}
 
 -- ---- rounding
@@ -48,15 +48,20 @@ zero-times t = record {
   large = (refl, sym (mul-one (0 * 2 ^ t) ∙ zero-mul (2 ^ t)));
 }
 
-round-times : (t : ℕ) (s : Bool) (n : ℕ) → T (finite (round binary32 s n L))
-    → T (finite (round binary32 s (n * 2 ^ t) L)) → Times t (round binary32 s n L) (round binary32 s (n * 2 ^ t) L)
-round-times t s n f g = record {
+-- what a fraction is rounded to, and 2 ^ t times the fraction, where the rounding is multiplied
+pub round-times : (t : ℕ) (x y : Float) (s : Bool) (n c : ℕ) → rnd (n * 2 ^ t * L) c ≡ rnd (n * L) c * 2 ^ t
+    → x ≡ round binary32 s n c → y ≡ round binary32 s (n * 2 ^ t) c → T (finite x) → T (finite y) → Times t x y
+round-times t x y s n c scaled small large f g = record {
   sign = s;
-  units = rnd n 1;
-  small = round-whole s n f;
-  large = subst (λ (w : ℕ). HasValue (round binary32 s (n * 2 ^ t) L) s w L) (rnd-power n t)
-      (round-whole s (n * 2 ^ t) g);
+  units = rnd (n * L) c;
+  small = value x n small f;
+  large = subst (λ (w : ℕ). HasValue y s w L) scaled (value y (n * 2 ^ t) large g);
 }
+  where
+    value : (z : Float) (m : ℕ) → z ≡ round binary32 s m c → T (finite z) → HasValue z s (rnd (m * L) c) L
+    value z m e h =
+        subst (λ (w : Float). HasValue w s (rnd (m * L) c) L) (sym e)
+        (round-value s m c (subst (λ (w : Float). T (finite w)) e h))
 
 module _ (t : ℕ) (x x' y y' : Float) (p : Times t x x') (q : Times t y y') where
   pub add-times : T (finite (x ⊕ y)) → T (finite (x' ⊕ y')) → Times t (x ⊕ y) (x' ⊕ y')
@@ -72,9 +77,8 @@ module _ (t : ℕ) (x x' y y' : Float) (p : Times t x x') (q : Times t y y') whe
       add-units x' y' (p .sign) (q .sign) (p .units * 2 ^ t) (q .units * 2 ^ t) (p .large) (q .large)
       ∙ is (2 ^ t) L (pow-pos t)
       in
-      subst (λ (z : Float). Times t z (x' ⊕ y')) (sym small)
-      (subst (Times t (round binary32 o n L)) (sym large)
-      (round-times t o n (subst (λ (z : Float). T (finite z)) small f) (subst (λ (z : Float). T (finite z)) large g)))
+      round-times t (x ⊕ y) (x' ⊕ y') o n L
+      (rnd-whole (n * 2 ^ t) ∙ rnd-power n t ∙ ap (λ (m : ℕ). m * 2 ^ t) (sym (rnd-whole n))) small large f g
 
 neg-times : (t : ℕ) (x y : Float) → Times t x y → Times t (neg x) (neg y)
 neg-times t x y p = record {

@@ -16,7 +16,7 @@ use Rattle.number.proofs.Units.Compared.{L, Is, lt-is}
 use Rattle.number.proofs.Units.{zero-is}
 use Rattle.number.proofs.Sums.Rounded.{to-is}
 use Rattle.number.proofs.Errors.{squared, OfSum, sum-off}
-use Rattle.number.proofs.Within.{Within, within-finite, within-more, sub-within, mul-within, add-within}
+use Rattle.number.proofs.Within.{Within, within-finite, mul-within, add-within}
 use Rattle.number.proofs.Signed.Sums.{plus-value, sub-apart}
 use Rattle.number.proofs.PowersOfTwo.Squares.{square-value}
 use Rattle.geometry.specs.Geometry.{at, col, Cross}
@@ -25,6 +25,7 @@ use Rattle.geometry.proofs.CrossPairs.{pairs-match}
 use Rattle.admission.specs.Admission.{boundedPoints}
 use Rattle.admission.proofs.Admitted.{points-within}
 use Rattle.pair.specs.Points.{gapSquare, gapExact, largestSquare, largestExact}
+use Rattle.pair.proofs.Norms.{difference-within, gap-within}
 
 -- ---- the largest of both: the computed largest is as near to the exact largest as each square is to its own
 mixed : (u v m e l : ℕ) → u ≤ v → e ≤ m → OfSum u m l → OfSum v e l → OfSum v m l
@@ -37,15 +38,12 @@ held-larger : (a b : Float) (m e : ℕ) → Held a m → Held b e → Held (larg
 unfolding larger
 held-larger a b m e (u, i, p) (v, j, q) = go (lt a b) (ltb m e) (sym (lt-is a b u v i j)) refl
   where
-    times : (a b : ℕ) → a ≤ b → a * L ≤ b * L
-    times a b h = mul-le-mul-right L h
-
     go : (c d : Bool) → ltb u v ≡ c → ltb m e ≡ d → Held (cond c b a) (cond d e m)
     go true true s t = (v, j, q)
     go true false s t =
-        (v, j, mixed (u * L) (v * L) m e L (times u v (le-of-lt (ltb-true u v s))) (ltb-false m e t) p q)
+        (v, j, mixed (u * L) (v * L) m e L (mul-le-mul-right L (le-of-lt (ltb-true u v s))) (ltb-false m e t) p q)
     go false true s t =
-        (u, i, mixed (v * L) (u * L) e m L (times v u (ltb-false u v s)) (le-of-lt (ltb-true m e t)) q p)
+        (u, i, mixed (v * L) (u * L) e m L (mul-le-mul-right L (ltb-false u v s)) (le-of-lt (ltb-true m e t)) q p)
     go false false s t = (u, i, p)
 
 -- ---- the points
@@ -63,13 +61,10 @@ module _ (x : List (List Float)) (h : T (boundedPoints x)) (f : PointsFit x) whe
     abbrev gap : ℕ → Float
     gap j = near j ⊖ far j
 
-    gap-within : (j : ℕ) → j < 3 → Within 21 (gap j)
-    gap-within j m =
-        sub-within 20 (near j) (far j) (lit≤ tt) (points-within x h (p .first) j k m)
-        (points-within x h (p .second) j l m)
-
     square-within : (j : ℕ) → j < 3 → Within 42 (gap j ⊗ gap j)
-    square-within j m = mul-within 21 21 (gap j) (gap j) (lit≤ tt) (gap-within j m) (gap-within j m)
+    square-within j m =
+        let d = difference-within x h p k l j m in
+        mul-within 21 21 (gap j) (gap j) (lit≤ tt) d d
 
     square-is : (j : ℕ) → j < 3 → HasValue (gap j ⊗ gap j) false (squared (exact j)) L
     square-is j m =
@@ -77,7 +72,7 @@ module _ (x : List (List Float)) (h : T (boundedPoints x)) (f : PointsFit x) whe
         sub-apart (near j) (far j) (f (p .first) j k m)
         (within-finite 20 (near j) (points-within x h (p .first) j k m)) (f (p .second) j l m)
         (within-finite 20 (far j) (points-within x h (p .second) j l m))
-        (within-finite 21 (gap j) (gap-within j m))
+        (within-finite 21 (gap j) (difference-within x h p k l j m))
         in
         square-value (gap j) o (rnd (exact j) 1) is (within-finite 42 (gap j ⊗ gap j) (square-within j m))
 
@@ -89,14 +84,12 @@ module _ (x : List (List Float)) (h : T (boundedPoints x)) (f : PointsFit x) whe
         let two = q 0 ⊕ q 1 in
         let two-within : Within 43 two =
         add-within 42 (q 0) (q 1) (lit≤ tt) (square-within 0 (lit< tt)) (square-within 1 (lit< tt)) in
-        let all-within : Within 44 (two ⊕ q 2) =
-        add-within 43 two (q 2) (lit≤ tt) two-within (within-more 42 43 (q 2) (lit≤ tt) (square-within 2 (lit< tt))) in
         let two-is =
         plus-value (q 0) (q 1) (u 0) (u 1) (square-is 0 (lit< tt)) (square-is 1 (lit< tt)) (within-finite 43 two two-within)
         in
         let all-is =
         plus-value two (q 2) (rnd (u 0 + u 1) 1) (u 2) two-is (square-is 2 (lit< tt))
-        (within-finite 44 (two ⊕ q 2) all-within)
+        (within-finite 44 (two ⊕ q 2) (gap-within x h p k l))
         in (
           rnd (rnd (u 0 + u 1) 1 + u 2) 1,
           to-is (two ⊕ q 2) (rnd (rnd (u 0 + u 1) 1 + u 2) 1) all-is,
