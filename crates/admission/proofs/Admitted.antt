@@ -1,12 +1,12 @@
--- What a call's refusal number says: 0 puts every number in its range and the split at 2 or 3; 1 is met exactly where
+-- What a call's refusal number says: 0 puts every number in its range, the split at 2 or 3; 1 is met exactly where
 -- some number is not finite; 2 exactly where all are and something lies beyond its range. Assumes nothing.
-use Prim.Native.Nat.{ℕ, zero, suc, _<_}
+use Prim.Native.Nat.{ℕ, zero, suc, _≤_, _<_}
 use native.Mathlib.Omega.{arith}
-use mathlib.Core.Path.{_≡_}
+use mathlib.Core.Path.{_≡_, refl}
 use mathlib.Core.Logic.{_⊎_, inl, inr, _↔_}
 use mathlib.Core.Bool.{Bool, true, false, not, _&&_, _||_}
 use mathlib.Core.List.{List}
-use lib.Dec.{T, eqb, eqb→eq, lit<}
+use lib.Dec.{T, eqb, leb, eqb→eq, leb→le, le→leb, lit<}
 use lib.Ieee.{Float}
 use lib.Ieee.Fits.{and-i, and-l, and-r}
 use Rattle.number.specs.Number.{isFinite, inBound, zeroToBound, zeroToOne, speedRange, refusal}
@@ -19,8 +19,8 @@ use Rattle.geometry.proofs.Bounds.{Each}
 use Rattle.geometry.specs.Geometry.{at, col}
 use Rattle.admission.specs.declared.Limits.{Limits}
 use Rattle.admission.specs.Admission.{ofThree, ofTwelve, finitePoints, boundedPoints, isSplit, finiteLimits}
-use Rattle.admission.specs.Admission.{rangedLimits, walkRefusal, pointsRefusal}
-use Rattle.admission.specs.Admission.{splitRefusal, factorRefusal, motionRefusal, timeRefusal, ratioRefusal}
+use Rattle.admission.specs.Admission.{rangedLimits, fullAllowance, isAllowance, walkRefusal}
+use Rattle.admission.specs.Admission.{pointsRefusal, splitRefusal, factorRefusal, motionRefusal, timeRefusal, ratioRefusal}
 
 -- ---- the numbers of four points, by column and place
 module _ (test : Float → Bool) where
@@ -107,6 +107,14 @@ split-parts split h = go (eqb split 2) (eqb split 3) (eqb→eq split 2) (eqb→e
     go false true f g h = inr (g tt)
     go false false f g h = absurd h
 
+-- ---- the allowance
+pub allowance-range : (n : ℕ) → T (isAllowance n) → (1 ≤ n) × (n ≤ fullAllowance)
+allowance-range n h =
+    (leb→le 1 n (and-l (leb 1 n) (leb n fullAllowance) h), leb→le n fullAllowance (and-r (leb 1 n) (leb n fullAllowance) h))
+
+pub range-allowance : (n : ℕ) → 1 ≤ n → n ≤ fullAllowance → T (isAllowance n)
+range-allowance n a b = and-i (leb 1 n) (leb n fullAllowance) (le→leb 1 n a) (le→leb n fullAllowance b)
+
 -- ---- the safe time
 pub record Walkable (x dx : List (List Float)) (split : ℕ) (l : Limits) : Type 0 where
   pub points : T (boundedPoints x)
@@ -125,47 +133,71 @@ abbrev pub rangedWalk : List (List Float) → List (List Float) → ℕ → Limi
 rangedWalk x dx split l = boundedPoints x && boundedPoints dx && rangedLimits l && isSplit split
 
 module _ (x dx : List (List Float)) (split : ℕ) (l : Limits) where
-  pub walk-admits : walkRefusal x dx split l ≡ 0 → Walkable x dx split l
-  unfolding walkRefusal rangedLimits
-  walk-admits e =
-      let r = refusal-none (finiteWalk x dx l) (rangedWalk x dx split l) e .1 in
-      let q = all-four (boundedPoints x) (boundedPoints dx) (rangedLimits l) (isSplit split) r in
-      let p =
-      all-four (zeroToBound (l .offset)) (zeroToBound (l .clearance)) (zeroToOne (l .«max_t»))
-      (speedRange (l .«u_max»)) (q .2)
-      in
-      record {
-        points = q .0;
-        displacements = q .1;
-        offset = p .0;
-        clearance = p .1;
-        max-t = p .2;
-        u-max = p .3;
-        parts = split-parts split (q .3);
-      }
-
-  pub walk-real : T (rangedWalk x dx split l) → T (finiteWalk x dx l)
-  walk-real h =
+  ranged-real : T (rangedWalk x dx split l) → T (finiteWalk x dx l)
+  ranged-real h =
       let q = all-four (boundedPoints x) (boundedPoints dx) (rangedLimits l) (isSplit split) h in
       and-i (finitePoints x && finitePoints dx) (finiteLimits l)
       (pair-real x dx (and-i (boundedPoints x) (boundedPoints dx) (q .0) (q .1))) (limits-real l (q .2))
 
-  -- in its range: admitted; beyond it: the verdict on finite numbers alone
-  pub walk-none : rangedWalk x dx split l ≡ true → 0 ≡ walkRefusal x dx split l
+  -- with an allowance in its range a call is refused as the pair and its limits are
+  pub walk-allowed : (allowed : ℕ) → T (isAllowance allowed)
+      → walkRefusal x dx split l allowed ≡ refusal (finiteWalk x dx l) (rangedWalk x dx split l)
   unfolding walkRefusal
-  walk-none e = ranged-none (finiteWalk x dx l) (rangedWalk x dx split l) walk-real e
+  walk-allowed allowed h = go (rangedWalk x dx split l) (isAllowance allowed) h
+    where
+      go : (r a : Bool) → T a → refusal (finiteWalk x dx l) (r && a) ≡ refusal (finiteWalk x dx l) r
+      go true true h = refl
+      go false true h = refl
+      go r false h = absurd h
 
-  pub walk-beyond : rangedWalk x dx split l ≡ false → refusal (finiteWalk x dx l) false ≡ walkRefusal x dx split l
-  unfolding walkRefusal
-  walk-beyond e = ranged-beyond (finiteWalk x dx l) (rangedWalk x dx split l) e
+  module _ (allowed : ℕ) where
+    -- all that lies in its range
+    abbrev pub rangedCall : Bool
+    rangedCall = rangedWalk x dx split l && isAllowance allowed
 
-  pub walk-first : (walkRefusal x dx split l ≡ 1) ↔ T (not (finiteWalk x dx l))
-  unfolding walkRefusal
-  walk-first = refusal-first (finiteWalk x dx l) (rangedWalk x dx split l)
+    pub walk-admits : walkRefusal x dx split l allowed ≡ 0 → Walkable x dx split l × T (isAllowance allowed)
+    unfolding walkRefusal rangedLimits
+    walk-admits e =
+        let r = refusal-none (finiteWalk x dx l) rangedCall e .1 in
+        let q =
+        all-four (boundedPoints x) (boundedPoints dx) (rangedLimits l) (isSplit split)
+        (and-l (rangedWalk x dx split l) (isAllowance allowed) r)
+        in
+        let p =
+        all-four (zeroToBound (l .offset)) (zeroToBound (l .clearance)) (zeroToOne (l .«max_t»))
+        (speedRange (l .«u_max»)) (q .2)
+        in (
+          record {
+            points = q .0;
+            displacements = q .1;
+            offset = p .0;
+            clearance = p .1;
+            max-t = p .2;
+            u-max = p .3;
+            parts = split-parts split (q .3);
+          },
+          and-r (rangedWalk x dx split l) (isAllowance allowed) r,
+        )
 
-  pub walk-second : (walkRefusal x dx split l ≡ 2) ↔ (T (finiteWalk x dx l) × T (not (rangedWalk x dx split l)))
-  unfolding walkRefusal
-  walk-second = refusal-second (finiteWalk x dx l) (rangedWalk x dx split l)
+    walk-real : T rangedCall → T (finiteWalk x dx l)
+    walk-real h = ranged-real (and-l (rangedWalk x dx split l) (isAllowance allowed) h)
+
+    -- in its range: admitted; beyond it: the verdict on finite numbers alone
+    pub walk-none : rangedCall ≡ true → 0 ≡ walkRefusal x dx split l allowed
+    unfolding walkRefusal
+    walk-none e = ranged-none (finiteWalk x dx l) rangedCall walk-real e
+
+    pub walk-beyond : rangedCall ≡ false → refusal (finiteWalk x dx l) false ≡ walkRefusal x dx split l allowed
+    unfolding walkRefusal
+    walk-beyond e = ranged-beyond (finiteWalk x dx l) rangedCall e
+
+    pub walk-first : (walkRefusal x dx split l allowed ≡ 1) ↔ T (not (finiteWalk x dx l))
+    unfolding walkRefusal
+    walk-first = refusal-first (finiteWalk x dx l) rangedCall
+
+    pub walk-second : (walkRefusal x dx split l allowed ≡ 2) ↔ (T (finiteWalk x dx l) × T (not rangedCall))
+    unfolding walkRefusal
+    walk-second = refusal-second (finiteWalk x dx l) rangedCall
 
 -- ---- the calls on points
 module _ (x : List (List Float)) where

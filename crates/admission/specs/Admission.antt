@@ -3,7 +3,7 @@
 use Prim.Native.Nat.{ℕ}
 use mathlib.Core.Bool.{Bool, _&&_, _||_}
 use mathlib.Core.List.{List}
-use lib.{Dec.eqb, Ieee.Float}
+use lib.{Dec.eqb, Dec.leb, Ieee.Float}
 use Rattle.number.specs.Number.{isFinite, inBound, zeroToBound, zeroToOne, speedRange, refusal}
 use Rattle.geometry.specs.Geometry.{at, col}
 use Rattle.admission.specs.declared.Limits.{Limits}
@@ -34,11 +34,18 @@ unfoldable pub rangedLimits : Limits → Bool
 rangedLimits l =
     zeroToBound (l .offset) && zeroToBound (l .clearance) && zeroToOne (l .«max_t») && speedRange (l .«u_max»)
 
--- a safe time: the 24 numbers of a pair, its split, its limits
-unfoldable pub walkRefusal : List (List Float) → List (List Float) → ℕ → Limits → ℕ
-walkRefusal x dx split l =
+-- how many probes a safe time may make: at most so many, and so many where its caller names no other number
+abbrev pub fullAllowance : ℕ
+fullAllowance = 4096
+
+abbrev pub isAllowance : ℕ → Bool
+isAllowance allowed = leb 1 allowed && leb allowed fullAllowance
+
+-- a safe time: the 24 numbers of a pair, its split, its limits, the probes allowed
+unfoldable pub walkRefusal : List (List Float) → List (List Float) → ℕ → Limits → ℕ → ℕ
+walkRefusal x dx split l allowed =
     refusal (finitePoints x && finitePoints dx && finiteLimits l)
-    (boundedPoints x && boundedPoints dx && rangedLimits l && isSplit split)
+    (boundedPoints x && boundedPoints dx && rangedLimits l && isSplit split && isAllowance allowed)
 
 -- four points; four points and their split, as a norm and a distance take them
 unfoldable pub pointsRefusal : List (List Float) → ℕ

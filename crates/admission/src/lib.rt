@@ -1,6 +1,6 @@
 // The tests of four points and of what callers hand over with them (docs/01-scope.md, "What callers hand over, and the
 // numbers allowed", "Refusal numbers"): 1, some number is NaN or infinite; 2, none is, but one lies beyond its range,
-// or the split is neither 2 nor 3; 0, admitted.
+// the split is neither 2 nor 3, or the allowance is not 1 to 4,096; 0, admitted.
 ghost use mathlib.Core.Path.{_≡_};
 ghost use Rattle.admission.specs.Admission as Def;
 use crate::points::points_finite;
@@ -29,6 +29,15 @@ fn is_split(split: usize) -> bool
     (split == 2) | (split == 3)
 }
 
+// How many probes a safe time may make: at most so many, and so many where its caller names no other number.
+pub const FULL_ALLOWANCE: u32 = 4096;
+
+fn is_allowance(allowance: u32) -> bool
+    ensures { λ r. ⌜ r ≡ Def.isAllowance allowance ⌝ }
+{
+    (1 <= allowance) & (allowance <= FULL_ALLOWANCE)
+}
+
 fn limits_finite(limits: Limits) -> bool
     ensures { λ r. ⌜ r ≡ Def.finiteLimits limits ⌝ }
 {
@@ -47,12 +56,22 @@ fn limits_ranged(limits: Limits) -> bool
         & range::speed_range(limits.u_max)
 }
 
-// The safe time: 24 numbers of a pair, its split, four limits. What lies in its range is finite, so that the ranges
-// alone are tested of what is admitted.
-pub fn admit_walk(x0: [[f32; 3]; 4], dx: [[f32; 3]; 4], split: usize, limits: Limits) -> u32
-    ensures { λ r. ⌜ r ≡ Def.walkRefusal x0 dx split limits ⌝ }
+// The safe time: 24 numbers of a pair, its split, four limits, the probes allowed. What lies in its range is finite, so
+// that the ranges alone are tested of what is admitted.
+pub fn admit_walk(
+    x0: [[f32; 3]; 4],
+    dx: [[f32; 3]; 4],
+    split: usize,
+    limits: Limits,
+    allowance: u32,
+) -> u32
+    ensures { λ r. ⌜ r ≡ Def.walkRefusal x0 dx split limits allowance ⌝ }
 {
-    if points_in_bound(x0) & points_in_bound(dx) & limits_ranged(limits) & is_split(split) {
+    if points_in_bound(x0)
+        & points_in_bound(dx)
+        & limits_ranged(limits)
+        & is_split(split)
+        & is_allowance(allowance) {
         return 0;
     }
     verdict(

@@ -9,6 +9,7 @@ pub mod Kept
 pub mod Threshold
 pub mod Admitted
 pub mod Promises
+pub mod Allowance
 mod Tables
 mod HalvingLoop
 mod WalkLoop

@@ -10,10 +10,11 @@ use lib.ListN.{length}
 use lib.Ieee.{Float, lt}
 use Rattle.number.specs.Number.{zero32}
 use Rattle.admission.specs.declared.Limits.{Limits}
-use Rattle.admission.proofs.Admitted.{Walkable, walk-admits}
+use Rattle.admission.specs.Admission.{fullAllowance}
+use Rattle.admission.proofs.Admitted.{Walkable, allowance-range, walk-admits}
 use Rattle.ccd3.specs.declared.Answer.{Answer}
 use Rattle.ccd3.specs.declared.Answer.the-variants.{Touching, Contact, Clear, Budget, Refused}
-use Rattle.ccd3.specs.SafeTime.{numbersOf, Walked, start, threshold, allowance, still, firstSquared, touches}
+use Rattle.ccd3.specs.SafeTime.{numbersOf, Walked, start, threshold, still, firstSquared, touches}
 use Rattle.ccd3.specs.SafeTime.{between, safeRefusal, safeWalk, safeTimeOf, InTime, Every, Rising, isFar}
 use Rattle.ccd3.specs.SafeTime.{Stopped, Passed, Promised, Promises}
 use Rattle.ccd3.proofs.StartLaws.{walked, number-none, safe-refused, safe-touches, safe-walks}
@@ -28,7 +29,7 @@ module _ (x₀ dx : List (List Float)) (split : ℕ) (l : Limits) (allowed : ℕ
       let n = numbersOf (w .ending .answer) in
       Promised x₀ dx split l allowed (n .0) (n .1) (n .2) (length (w .probed)) (w .ending .halvings)
 
-  refused-keeps : (n : ℕ) → safeRefusal x₀ dx split l ≡ suc n
+  refused-keeps : (n : ℕ) → safeRefusal x₀ dx split l allowed ≡ suc n
       → safeWalk x₀ dx split l allowed ≡ still (Refused (suc n)) → Keeps (still (Refused (suc n)))
   unfolding numbersOf
   refused-keeps n e is = record {
@@ -36,6 +37,7 @@ module _ (x₀ dx : List (List Float)) (split : ℕ) (l : Limits) (allowed : ℕ
     probes-counted = sym (ap (λ (w : Walked). length (w .probed)) is);
     halvings-counted = sym (ap (λ (w : Walked). w .ending .halvings) is);
     few-probes = zero-le;
+    in-range = λ h. absurd (omega arith);
     few-halvings = zero-le;
     refused = λ h. (refl, refl, refl, refl);
     answered = λ h. absurd (omega arith);
@@ -47,7 +49,8 @@ module _ (x₀ dx : List (List Float)) (split : ℕ) (l : Limits) (allowed : ℕ
     budget = λ h. absurd (omega arith);
   }
 
-  module _ (e : safeRefusal x₀ dx split l ≡ 0) (adm : Walkable x₀ dx split l) (fit : Fitting x₀ l) where
+  module _ (e : safeRefusal x₀ dx split l allowed ≡ 0) (adm : Walkable x₀ dx split l)
+      (ranged : (1 ≤ allowed) × (allowed ≤ fullAllowance)) (fit : Fitting x₀ l) where
     abbrev g : Ground x₀ dx split l
     g = ground x₀ dx split l adm fit
 
@@ -64,6 +67,7 @@ module _ (x₀ dx : List (List Float)) (split : ℕ) (l : Limits) (allowed : ℕ
         probes-counted = sym (ap (λ (v : Walked). length (v .probed)) is);
         halvings-counted = sym (ap (λ (v : Walked). v .ending .halvings) is);
         few-probes = few;
+        in-range = λ n. ranged;
         few-halvings = halves;
         refused = λ n. absurd (n refl);
         answered = λ n. small;
@@ -131,26 +135,33 @@ module _ (x₀ dx : List (List Float)) (split : ℕ) (l : Limits) (allowed : ℕ
       walk-promised : Keeps w
       walk-promised = by-answer (w .ending .answer) (kept .says)
 
+  -- what is not refused
+  admitted : safeRefusal x₀ dx split l allowed ≡ 0
+      → Walkable x₀ dx split l × ((1 ≤ allowed) × (allowed ≤ fullAllowance)) × (between x₀ dx split l ≡ false)
+  admitted e =
+      let k = number-none x₀ dx split l allowed e in
+      let w = walk-admits x₀ dx split l allowed (k .0) in
+      (w .0, allowance-range allowed (w .1), k .1)
+
   -- the promises of every walk
   walk-promised-all : Fitting x₀ l → Keeps (safeWalk x₀ dx split l allowed)
-  walk-promised-all f = go (safeRefusal x₀ dx split l) (touches x₀ dx split l) refl refl
+  walk-promised-all f = go (safeRefusal x₀ dx split l allowed) (touches x₀ dx split l) refl refl
     where
-      go : (n : ℕ) (t : Bool) → safeRefusal x₀ dx split l ≡ n → touches x₀ dx split l ≡ t
+      go : (n : ℕ) (t : Bool) → safeRefusal x₀ dx split l allowed ≡ n → touches x₀ dx split l ≡ t
           → Keeps (safeWalk x₀ dx split l allowed)
       go (suc n) t e h =
           let is = safe-refused x₀ dx split l allowed (suc n) e (λ k. omega arith) in
           subst Keeps (sym is) (refused-keeps n e is)
       go zero true e h =
           let is = safe-touches x₀ dx split l allowed e h in
-          let k = number-none x₀ dx split l e in
-          subst Keeps (sym is) (touching-keeps e (walk-admits x₀ dx split l (k .0)) f h is)
+          let k = admitted e in
+          subst Keeps (sym is) (touching-keeps e (k .0) (k .1) f h is)
       go zero false e h =
-          let k = number-none x₀ dx split l e in
-          subst Keeps (sym (safe-walks x₀ dx split l allowed e h))
-          (walk-promised e (walk-admits x₀ dx split l (k .0)) f (k .1) h)
+          let k = admitted e in
+          subst Keeps (sym (safe-walks x₀ dx split l allowed e h)) (walk-promised e (k .0) (k .1) f (k .2) h)
 
 -- the promises of every answer
-pub safe-time-promised : (x₀ dx : List (List Float)) (split : ℕ) (l : Limits) → Fitting x₀ l
-    → Promises x₀ dx split l (safeTimeOf x₀ dx split l)
+pub safe-time-promised : (x₀ dx : List (List Float)) (split : ℕ) (l : Limits) (allowed : ℕ) → Fitting x₀ l
+    → Promises x₀ dx split l allowed (safeTimeOf x₀ dx split l allowed)
 unfolding safeTimeOf
-safe-time-promised x₀ dx split l f = walk-promised-all x₀ dx split l allowance f
+safe-time-promised x₀ dx split l allowed f = walk-promised-all x₀ dx split l allowed f

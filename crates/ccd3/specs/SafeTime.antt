@@ -1,6 +1,7 @@
 -- The safe time of a pair, refused ones too: the walk from a start that is apart, with steps that are safe by the
 -- distance, a probe at the end of each, and a halving once a probe is not apart any more (docs/01-scope.md, "The
--- directional step", "The walk", "Refusal numbers"); and what every answer promises (docs/GUARANTEES.md). Definitions only.
+-- directional step", "The walk", "The allowance", "Refusal numbers"); and what every answer promises
+-- (docs/GUARANTEES.md). Definitions only.
 use Prim.Native.Nat.{ℕ, zero, suc, _≤_}
 use mathlib.Core.{Path._≡_, Option.Option, Option.none, Option.some, List.List, List.[], List._∷_}
 use mathlib.Core.Bool.{Bool, true, false, cond, _&&_, _||_, not}
@@ -10,7 +11,7 @@ use Rattle.number.specs.Number.{_⊕_, _⊖_, _⊗_, _⊘_, zero32, half32, one
 use Rattle.number.specs.Number.{nextUp, rootOf, Halved, halve}
 use Rattle.geometry.specs.Geometry.{at, col, vec, minus, dot, moved, Cross, crossPairs}
 use Rattle.distance.specs.{declared.candidate.Nearest.Nearest, Distance.nearestOf}
-use Rattle.admission.specs.{declared.Limits.Limits, Admission.walkRefusal}
+use Rattle.admission.specs.{declared.Limits.Limits, Admission.fullAllowance, Admission.walkRefusal}
 use Rattle.ccd3.specs.declared.{Aim.Aim, Answer.Answer, SafeTime.SafeTime, Ending.Ending}
 use Rattle.ccd3.specs.declared.Answer.the-variants.{Touching, Contact, Clear, Budget, Refused}
 
@@ -205,10 +206,6 @@ module _ (x₀ dx : List (List Float)) (split : ℕ) (threshold : Float) where
 abbrev pub squaredPark : Limits → Float
 squaredPark l = park l ⊗ park l
 
--- how many probes a call may make
-abbrev pub allowance : ℕ
-allowance = 4096
-
 -- what the squared distance has to stay above
 abbrev pub threshold : Limits → Float
 threshold l = squaredPark l
@@ -216,6 +213,10 @@ threshold l = squaredPark l
 -- an answer with no walk
 abbrev pub still : Answer → Walked
 still a = ends (unbracketed a zero32)
+
+-- what an answer tells of a walk
+abbrev pub toldOf : Walked → SafeTime
+toldOf w = record { answer = w .ending .answer; probes = length (w .probed); halvings = w .ending .halvings }
 
 module _ (x₀ dx : List (List Float)) (split : ℕ) (l : Limits) where
   unfoldable pub firstSquared : Float
@@ -227,15 +228,15 @@ module _ (x₀ dx : List (List Float)) (split : ℕ) (l : Limits) where
   abbrev pub between : Bool
   between = lt (l .offset ⊗ l .offset) firstSquared && lt firstSquared (squaredPark l)
 
-  -- the refusal's number, 0 for none
-  unfoldable pub safeRefusal : ℕ
+  -- the refusal's number with so many probes allowed, 0 for none
+  unfoldable pub safeRefusal : ℕ → ℕ
   unfolding firstSquared
-  safeRefusal = elim (walkRefusal x₀ dx split l) [ zero ↦ cond between 3 0 | suc n ↦ suc n ]
+  safeRefusal allowed = elim (walkRefusal x₀ dx split l allowed) [ zero ↦ cond between 3 0 | suc n ↦ suc n ]
 
   -- of any numbers, with so many probes allowed
   unfoldable pub safeWalk : ℕ → Walked
   unfolding firstSquared safeRefusal walk
-  safeWalk allowed = elim safeRefusal [
+  safeWalk allowed = elim (safeRefusal allowed) [
     | zero ↦ elim touches [
       | true ↦ still (Touching zero32)
       | false ↦ walk x₀ dx split (threshold l) l allowed (start x₀ dx split)
@@ -243,11 +244,9 @@ module _ (x₀ dx : List (List Float)) (split : ℕ) (l : Limits) where
     | suc n ↦ still (Refused (suc n))
   ]
 
-unfoldable pub safeTimeOf : List (List Float) → List (List Float) → ℕ → Limits → SafeTime
-unfolding safeWalk
-safeTimeOf x₀ dx split l =
-    let w = safeWalk x₀ dx split l allowance in
-    record { answer = w .ending .answer; probes = length (w .probed); halvings = w .ending .halvings }
+  unfoldable pub safeTimeOf : ℕ → SafeTime
+  unfolding safeWalk
+  safeTimeOf allowed = toldOf (safeWalk allowed)
 
 -- ---- the promises, over the numbers of the answer and the walk of the definition
 -- a time from 0 to the time limit, a zero with the sign plus
@@ -298,10 +297,11 @@ module _ (x₀ dx : List (List Float)) (split : ℕ) (l : Limits) (allowed : ℕ
   -- zero counts. Touching: at the start it is at most the squared offset, or just the squared park distance. Budget: it
   -- exceeds the threshold at the time, and every probe allowed was made.
   pub record Promised (refusal kind : ℕ) (time : Float) (probes halvings : ℕ) : Type 0 where
-    pub number : refusal ≡ safeRefusal x₀ dx split l
+    pub number : refusal ≡ safeRefusal x₀ dx split l allowed
     pub probes-counted : probes ≡ length probed
     pub halvings-counted : halvings ≡ safeWalk x₀ dx split l allowed .ending .halvings
     pub few-probes : probes ≤ allowed
+    pub in-range : refusal ≡ 0 → (1 ≤ allowed) × (allowed ≤ fullAllowance)
     pub few-halvings : halvings ≤ 256
     pub refused : (refusal ≡ 0 → ⊥) → (kind ≡ 4) × (time ≡ zero32) × (probes ≡ 0) × (halvings ≡ 0)
     pub answered : refusal ≡ 0 → kind ≤ 3
@@ -313,6 +313,6 @@ module _ (x₀ dx : List (List Float)) (split : ℕ) (l : Limits) (allowed : ℕ
     pub budget : kind ≡ 3 → (isFar time ≡ true) × (probes ≡ allowed)
 
 -- of an answer as the library gives it
-abbrev pub Promises : List (List Float) → List (List Float) → ℕ → Limits → SafeTime → Type 0
-Promises x₀ dx split l s =
-    let n = numbersOf (s .answer) in Promised x₀ dx split l allowance (n .0) (n .1) (n .2) (s .probes) (s .halvings)
+abbrev pub Promises : List (List Float) → List (List Float) → ℕ → Limits → ℕ → SafeTime → Type 0
+Promises x₀ dx split l allowed s =
+    let n = numbersOf (s .answer) in Promised x₀ dx split l allowed (n .0) (n .1) (n .2) (s .probes) (s .halvings)

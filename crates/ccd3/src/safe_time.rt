@@ -1,19 +1,18 @@
-// The safe time of a pair (ccd3.rs: `maximum_safe_time_accurate`; docs/01-scope.md, "The walk").
+// The safe time of a pair (ccd3.rs: `maximum_safe_time_accurate`; docs/01-scope.md, "The walk", "The allowance").
 ghost use mathlib.Core.Path.{_≡_};
-ghost use Rattle.admission.specs.Admission.{walkRefusal};
+ghost use Rattle.admission.specs.Admission.{fullAllowance, walkRefusal};
 ghost use Rattle.ccd3.specs.SafeTime as Def;
+ghost use Rattle.ccd3.specs.Allowance.{GrowsFrom};
 ghost use Rattle.ccd3.specs.Inner as Inner;
 use crate::Answer;
 use crate::Counted;
 use crate::SafeTime;
 use crate::walk::unbracketed;
 use crate::walk::walk;
+use admission::FULL_ALLOWANCE;
 use admission::Limits;
 use admission::admit_walk;
 use distance::nearest::nearest;
-
-// How many probes a call may make.
-const ALLOWANCE: u32 = 4096;
 
 // What the squared distance has to stay above.
 fn threshold(l: Limits) -> f32
@@ -39,7 +38,7 @@ fn admitted(
     l: Limits,
     allowance: u32,
 ) -> Counted
-    requires { ⌜ walkRefusal x0 dx split l ≡ 0 ⌝ }
+    requires { ⌜ walkRefusal x0 dx split l allowance ≡ 0 ⌝ }
     ensures { λ r. ⌜ r ≡ Inner.countedFrom 0 (Def.safeWalk x0 dx split l allowance) ⌝ }
 {
     let first = nearest(x0, split);
@@ -65,7 +64,7 @@ fn safe_walk(
 ) -> Counted
     ensures { λ r. ⌜ r ≡ Inner.countedFrom 0 (Def.safeWalk x0 dx split limits allowance) ⌝ }
 {
-    let refusal = admit_walk(x0, dx, split, limits);
+    let refusal = admit_walk(x0, dx, split, limits, allowance);
     if refusal == 0 {
         admitted(x0, dx, split, limits, allowance)
     } else {
@@ -73,17 +72,19 @@ fn safe_walk(
     }
 }
 
-// How far along the move dx the pair at x0 may go.
-pub fn maximum_safe_time_accurate(
+// How far along the move dx the pair at x0 may go, with so many probes allowed.
+pub fn maximum_safe_time_allowing(
     x0: [[f32; 3]; 4],
     dx: [[f32; 3]; 4],
     split: usize,
     limits: Limits,
+    allowance: u32,
 ) -> SafeTime
-    ensures answer { λ r. ⌜ r ≡ Def.safeTimeOf x0 dx split limits ⌝ }
-    ensures promised { λ r. ⌜ Def.Promises x0 dx split limits r ⌝ }
+    ensures answer { λ r. ⌜ r ≡ Def.safeTimeOf x0 dx split limits allowance ⌝ }
+    ensures promised { λ r. ⌜ Def.Promises x0 dx split limits allowance r ⌝ }
+    ensures grows { λ r. ⌜ GrowsFrom x0 dx split limits allowance r ⌝ }
 {
-    let c = safe_walk(x0, dx, split, limits, ALLOWANCE);
+    let c = safe_walk(x0, dx, split, limits, allowance);
     let ending = c.ending;
     let answer = ending.answer;
     SafeTime {
@@ -91,4 +92,18 @@ pub fn maximum_safe_time_accurate(
         probes: c.probes,
         halvings: ending.halvings,
     }
+}
+
+// With as many allowed as may be.
+pub fn maximum_safe_time_accurate(
+    x0: [[f32; 3]; 4],
+    dx: [[f32; 3]; 4],
+    split: usize,
+    limits: Limits,
+) -> SafeTime
+    ensures answer { λ r. ⌜ r ≡ Def.safeTimeOf x0 dx split limits fullAllowance ⌝ }
+    ensures promised { λ r. ⌜ Def.Promises x0 dx split limits fullAllowance r ⌝ }
+    ensures grows { λ r. ⌜ GrowsFrom x0 dx split limits fullAllowance r ⌝ }
+{
+    maximum_safe_time_allowing(x0, dx, split, limits, FULL_ALLOWANCE)
 }

@@ -11,7 +11,8 @@ use lib.Dec.{T, eqb, ltb→lt, lt→ltb, eqb→eq}
 use lib.Ieee.{Float, nan, inf, fin, up, down, lt, le, below, level}
 use lib.Ieee.Fits.{down-pos, and-l, and-r}
 use Rattle.number.proofs.Signs.{le-of-tests}
-use Rattle.number.proofs.Comparing.{lt-le as lt-le-float}
+use Rattle.number.proofs.Comparing.{lt-le as lt-le-float, not-lt-le}
+use Rattle.number.proofs.NoNan.{no-nan-le}
 
 -- ---- fractions X / p, Y / q, Z / k
 module _ (X p Y q Z k : ℕ) where
@@ -144,3 +145,11 @@ lt-self (fin true m e) h = lt-irrefl (m * up e * down e) (ltb→lt (m * up e * d
 -- of two values, not both tests hold
 pub lt-not-le : (x y : Float) → T (lt x y) → T (le y x) → ⊥
 lt-not-le x y h l = lt-self y (le-lt-trans y x y l h)
+
+pub le-le-trans : (x y z : Float) → T (le x y) → T (le y z) → T (le x z)
+le-le-trans x y z h l =
+    not-lt-le z x (no-nan-le y z l .1) (no-nan-le x y h .0) (go (lt z x) (λ k. lt-not-le y x (le-lt-trans y z x l k) h))
+  where
+    go : (b : Bool) → (T b → ⊥) → T (not b)
+    go true n = absurd (n tt)
+    go false n = tt

@@ -37,8 +37,9 @@ module _ (c : tie.After-nearest) where
       → (lt (squaredOffset (c .before .args .l)) (c .nearest .result .squared)
       && lt (c .nearest .result .squared) (squaredPark (c .before .args .l))) ≡ b
       → safeRefusal (c .before .args .x0) (c .before .args .dx) (c .before .args .split) (c .before .args .l)
+      (c .before .args .allowance)
       ≡ cond b 3 0
-  numbered b e = number-admitted _ _ _ _ (c .before .pre) ∙ ap (λ (t : Bool). cond t 3 0) (as-between b e)
+  numbered b e = number-admitted _ _ _ _ _ (c .before .pre) ∙ ap (λ (t : Bool). cond t 3 0) (as-between b e)
 
 returns : tie.Need-returns
 returns c =

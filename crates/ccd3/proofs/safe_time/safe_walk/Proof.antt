@@ -18,7 +18,7 @@ returns-2 c =
     let admission = c .before .before in
     let a = admission .before .args in
     let other = c .before .if1 .left in
-    let number = number-admission (a .x0) (a .dx) (a .split) (a .limits) (admission .admit-walk .result)
+    let number = number-admission (a .x0) (a .dx) (a .split) (a .limits) (a .allowance) (admission .admit-walk .result)
     (sym (admission .admit-walk .ensures)) other in
     c .still .ensures
     ∙ ap (countedFrom 0) (sym (safe-refused (a .x0) (a .dx) (a .split) (a .limits) (a .allowance) _ number other))
