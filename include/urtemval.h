@@ -31,11 +31,12 @@
  * - contact, clear: the time is the pair's.
  * - budget: the time is the pair's, as after contact, and often there is more room. The next move goes on from there,
  *   or a second question from the moved points with what is left of the move. Budgets come where steps are short: u_max
- *   is far above the pair's own speed, or the clearance is tiny beside the way that the pair makes near park.
+ *   is far above the pair's own speed, or the clearance is tiny beside the way that the pair makes near park. After
+ *   urtemval_safe_time_allowing with a small allowance, ask again with a larger one: the time does not fall.
  * - touching: the time is 0 and stays 0. Part the pair by other means, or leave it out and answer for it yourself.
  * - refused by 1: a point, a displacement or a limit is NaN or infinite. Mend what made it, and do not move by it.
  * - refused by 2: the split is neither 2 nor 3, or a number is outside its range. Coordinates beyond 2^20: centre the
- *   pair, or take larger units. u_max below 2^-60: step 3 has the maximum.
+ *   pair, or take larger units. u_max below 2^-60: step 3 has the maximum. An allowance is 1 to 4096.
  * - refused by 3: the pair starts between the offset and park. Ask again with a smaller clearance, half of what its
  *   distance exceeds the offset by, or take it as touching.
  * - refused by 4 or 5: see step 2; points and displacements are as they were.
@@ -63,9 +64,9 @@
 #define URTEMVAL_H
 
 /* The version of this header, and of the archive that was made beside it. */
-#define URTEMVAL_VERSION "0.3.0"
+#define URTEMVAL_VERSION "0.4.0"
 #define URTEMVAL_VERSION_MAJOR 0
-#define URTEMVAL_VERSION_MINOR 3
+#define URTEMVAL_VERSION_MINOR 4
 #define URTEMVAL_VERSION_PATCH 0
 
 #include <float.h>
@@ -97,6 +98,11 @@ extern "C" {
 enum {
     URTEMVAL_EDGE_EDGE = 2,  /* points 0 and 1 against points 2 and 3 */
     URTEMVAL_FACE_VERTEX = 3 /* points 0 to 2 against point 3 */
+};
+
+/* How many times a safe time may try: at most so many, and so many where its caller names no other number. */
+enum {
+    URTEMVAL_FULL_ALLOWANCE = 4096
 };
 
 /* How a safe time ends: UrtemvalSafeTime.kind. */
@@ -171,7 +177,7 @@ typedef struct UrtemvalSafeTime {
     uint32_t refusal;  /* 0, or the refusal's number: 1, 2 or 3 */
     uint32_t kind;     /* one of the five kinds */
     float time;        /* from 0 to the time limit; a zero has the sign plus */
-    uint32_t probes;   /* how many times were tried, at most 4096 */
+    uint32_t probes;   /* how many times were tried, at most 4096, or as many as were allowed */
     uint32_t halvings; /* how often the last span was halved, at most 256 */
 } UrtemvalSafeTime;
 
@@ -216,6 +222,18 @@ typedef struct UrtemvalValue {
  */
 UrtemvalSafeTime urtemval_safe_time(const UrtemvalPoints *x0, const UrtemvalPoints *dx, size_t split,
                                     UrtemvalLimits limits) URTEMVAL_NOEXCEPT;
+
+/*
+ * The same with another number of times that may be tried, 1 to 4096: for a preview, which is to cost little. With 4096
+ * it is urtemval_safe_time, bit for bit. The kinds are as there, but for
+ * - budget, t: d(t) exceeds park^2, and just `allowance` times were tried.
+ * Any answer but a budget is the answer of every larger allowance too, counts included. A budget is one with every
+ * smaller allowance too, at a time that is not after t: as the allowance grows, the time of a budget never falls.
+ *
+ * Refusals: as there, and 2 also where the allowance is 0 or above 4096.
+ */
+UrtemvalSafeTime urtemval_safe_time_allowing(const UrtemvalPoints *x0, const UrtemvalPoints *dx, size_t split,
+                                             UrtemvalLimits limits, uint32_t allowance) URTEMVAL_NOEXCEPT;
 
 /*
  * The squared distance of the two sides of x, with its direction and its candidate.

@@ -60,6 +60,14 @@ READ = {"number": 1, "word": 1, "split": 1, "point": 3, "points": 12}
 WRITTEN = {"put": 1, "put_number": 1, "put_point": 3, "put_points": 12}
 
 
+def read(name, bodies):
+    """The places of the call that a function of `answers` reads, itself or by another that it hands the call to."""
+    found = {(int(at), 4 * READ[word]) for word, at in re.findall(r"words::(\w+)\(call, (\d+)\)", bodies[name])}
+    for other in re.findall(r"\b(\w+)\(call\)", bodies[name]):
+        found |= read(other, bodies)
+    return found
+
+
 def written(name, bodies):
     """The places that a function of `answers` writes, itself or by another that it hands its run to."""
     found = set()
@@ -83,8 +91,7 @@ def rattle_faults(functions):
         elif f.name not in bodies:
             yield f"crates/answers/src: there is no function {f.name}"
         else:
-            reads = re.findall(r"words::(\w+)\(call, (\d+)\)", bodies[f.name])
-            if {(int(at), 4 * READ[read]) for read, at in reads} != {(4 + 4 * x.at, 4 * x.words) for x in f.call}:
+            if read(f.name, bodies) != {(4 + 4 * x.at, 4 * x.words) for x in f.call}:
                 yield f"crates/answers/src: {f.name} does not read the fields of its call"
             if written(f.name, bodies) != {(4 * x.at, 4 * x.words) for x in f.answer}:
                 yield f"crates/answers/src: {f.name} does not write the fields of its answer"

@@ -1,5 +1,6 @@
-//! Cuts the functions in scope out of the original's text, unedited, into files that `src/original.rs` includes. The
-//! original's folder is the environment variable URTEMVAL_RUST, or else where the project keeps it beside itself.
+//! Cuts the functions in scope out of the original's text, unedited, into files that `src/original.rs` includes; and the
+//! safe time once more, with the number of probes allowed in place of its constant. The original's folder is the
+//! environment variable URTEMVAL_RUST, or else where the project keeps it beside itself.
 
 use std::path::{Path, PathBuf};
 use std::{env, fs};
@@ -49,6 +50,13 @@ const ITEMS: [(&str, &[&str]); 5] = [
     ),
 ];
 
+/// The safe time, and what is put in place of what in it: the number of probes allowed is an argument.
+const SAFE_TIME: &str = "pub fn maximum_safe_time_accurate<";
+const ALLOWING: [(&str, &str); 2] = [
+    ("    max_t: f32,\n) -> f32\n", "    max_t: f32,\n    allowance: usize,\n) -> f32\n"),
+    ("    const MAX_PROBES: usize = 4096;\n", "    #[allow(non_snake_case)]\n    let MAX_PROBES = allowance;\n"),
+];
+
 pub fn cut(out: &Path) {
     println!("cargo:rerun-if-env-changed=URTEMVAL_RUST");
     let folder = match env::var_os("URTEMVAL_RUST") {
@@ -61,7 +69,17 @@ pub fn cut(out: &Path) {
         let text = fs::read_to_string(&file).unwrap_or_else(|e| panic!("{}: {e}", file.display()));
         let cut: Vec<String> = items.iter().map(|start| item(&text, start, name)).collect();
         fs::write(out.join(format!("{name}.rs")), cut.join("\n")).expect("OUT_DIR can be written");
+        if items.contains(&SAFE_TIME) {
+            let allowing = ALLOWING.iter().fold(item(&text, SAFE_TIME, name), replaced);
+            fs::write(out.join("allowing.rs"), allowing).expect("OUT_DIR can be written");
+        }
     }
+}
+
+/// The text with the one place of `old` replaced.
+fn replaced(text: String, (old, new): &(&str, &str)) -> String {
+    assert_eq!(text.matches(old).count(), 1, "the original's safe time has `{old}` once");
+    text.replace(old, new)
 }
 
 /// The one item of `text` that begins with `start`, as it stands there.

@@ -19,7 +19,7 @@ pub fn answered(call: &Call, expected: &Words, original: &Words) -> Relation {
     let signs_free = call.function.answer_fields().iter().find(times_or_roots).map_or(0..0, Field::places);
     let zeros = |i: usize| signs_free.contains(&i) && expected.number(i) == 0.0 && original.number(i) == 0.0;
     let differing: Vec<usize> = (0..ours.len()).filter(|&i| ours[i] != theirs[i]).collect();
-    if call.function == Function::MaximumSafeTimeAccurate {
+    if call.function.is_safe_time() {
         let [kind, halvings] = ["kind", "halvings"].map(|name| call.function.answer(name).at);
         let touching = ours[kind] == 0;
         // the original names no kind but a contact, and halves once where the pair starts at park squared

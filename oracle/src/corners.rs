@@ -1,6 +1,7 @@
 //! The corners of docs/01-scope.md ("Corners to check"): each a call and the answer that the document gives it, as
 //! words in hex. Every comparison begins with them; the expected answers are held to the rules and to the original.
 
+use crate::allowance_corners;
 use crate::calls::Call;
 use crate::judge::{judged, Relation};
 use crate::model::Rules;
@@ -104,9 +105,9 @@ const CORNERS: [Corner; 23] = [
     Corner { what: "the same turned", call: passing!("40000000 0 bf800000 bf800000 0 0"), answer: "0 1 3ee575db 2 16" },
 ];
 
-/// All of them, those of the norm last.
+/// All of them.
 fn all() -> impl Iterator<Item = &'static Corner> {
-    CORNERS.iter().chain(&norm_corners::CORNERS)
+    CORNERS.iter().chain(&norm_corners::CORNERS).chain(&allowance_corners::CORNERS)
 }
 
 /// The calls, for a run to begin with.

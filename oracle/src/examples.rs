@@ -15,6 +15,11 @@ pub const EXAMPLES: &[(Entry, &str)] = &[
         "maximum_safe_time_accurate 0 0 0 0 0 0 0 0 3f800000 0 0 3f800000 0 0 0 0 0 0 0 0 0 0 0 0 \
          2 0 0 40000000 3f800000",
     ),
+    (
+        Entry::Limits,
+        "maximum_safe_time_allowing 0 0 0 0 0 0 0 0 3f800000 0 0 3f800000 0 0 0 0 0 0 0 0 bf800000 0 0 bf800000 \
+         2 0 0 3f800000 3f800000 0",
+    ),
     (Entry::Limits, "cubic_roots_in_range_zero_to_t 0 0 0 0 0 0"),
     (Entry::Limits, "quadratic_root 5f800000 5f800000 5f800000"),
     (Entry::Limits, "coplanar_time_mat3x4 0 0 0 43000000 0 0 0 43000000 0 0 0 43000000 0 0 0 0 0 0 0 0 0 0 0 0"),

@@ -50,6 +50,11 @@ impl Function {
         found.unwrap_or_else(|| panic!("there is no function {name}"))
     }
 
+    /// Whether it answers a safe time.
+    pub fn is_safe_time(self) -> bool {
+        matches!(self, Function::MaximumSafeTimeAccurate | Function::MaximumSafeTimeAllowing)
+    }
+
     fn row(self) -> &'static Row {
         &ROWS[self as usize]
     }

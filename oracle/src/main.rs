@@ -1,6 +1,7 @@
 //! The Rust side of the tests. It makes calls, asks the original and a model of the rules, and judges the answers of
 //! the Rattle program (docs/TESTING.md).
 
+mod allowance_corners;
 mod answered;
 mod ask;
 mod bounds;

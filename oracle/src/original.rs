@@ -1,5 +1,5 @@
-//! The original: functions of del-geo-core in scope, compiled from its own text as it stands (`build.rs` cuts them out;
-//! no line of them is in this project). What is written here is only what that text needs from elsewhere.
+//! The original: functions of del-geo-core in scope, compiled from its own text as it stands (`build/original.rs` cuts them
+//! out; no line of them is in this project). What is written here is only what that text needs from elsewhere.
 #![allow(dead_code, unused_imports, clippy::all)]
 
 /// The Debian package's num-traits can lack `Float::clamp`, which later versions have. Where the trait has it, that one
@@ -39,4 +39,10 @@ pub mod polynomial_root {
 
 pub mod ccd3 {
     include!(concat!(env!("OUT_DIR"), "/ccd3.rs"));
+
+    /// The safe time with its constant, the number of probes allowed, set by the caller.
+    pub mod allowing {
+        use super::{directional_advance, SquareDistance};
+        include!(concat!(env!("OUT_DIR"), "/allowing.rs"));
+    }
 }

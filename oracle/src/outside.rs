@@ -5,12 +5,12 @@
 use crate::calls::Call;
 use crate::functions::Function;
 use crate::generate::neighbour;
-use crate::model::{BOUND, FASTEST, SLOWEST};
+use crate::model::{BOUND, FASTEST, FULL_ALLOWANCE, SLOWEST};
 use crate::words::NAN;
 
 pub enum Allowed {
-    /// 2 or 3.
-    Split,
+    /// A whole number from the first to the second.
+    Whole(u32, u32),
     /// A number from the first to the second.
     Number(f32, f32),
 }
@@ -18,7 +18,8 @@ pub enum Allowed {
 /// What is allowed goes by the name of the field; t and x mean other things in two functions each.
 pub fn allowed(function: Function, place: usize) -> Allowed {
     let (low, high) = match function.name_at(place) {
-        "split" => return Allowed::Split,
+        "split" => return Allowed::Whole(2, 3),
+        "allowance" => return Allowed::Whole(1, FULL_ALLOWANCE),
         "x" if function == Function::SquareRoot => (0.0, f32::MAX),
         "x" | "x0" | "dx" | "p0" | "p1" | "c0" | "c1" | "c2" | "c3" => (-BOUND, BOUND),
         "t" if function == Function::CubicRootsInRangeZeroToT => (1.0e-45, 1.0),
@@ -33,10 +34,10 @@ pub fn allowed(function: Function, place: usize) -> Allowed {
 /// The ways of being outside.
 pub const WAYS: [&str; 4] = ["NaN", "infinite", "below", "above"];
 
-/// The ways that a place has. A split is below or above.
+/// The ways that a place has. A whole number is below or above.
 pub fn ways(function: Function, place: usize) -> &'static [usize] {
     match allowed(function, place) {
-        Allowed::Split => &[2, 3],
+        Allowed::Whole(..) => &[2, 3],
         Allowed::Number(_, high) if high == f32::MAX => &[0, 1, 2],
         Allowed::Number(..) => &[0, 1, 2, 3],
     }
@@ -45,8 +46,8 @@ pub fn ways(function: Function, place: usize) -> &'static [usize] {
 /// The word that is outside in this way, and only just.
 pub fn just_outside(function: Function, place: usize, way: usize) -> u32 {
     match (allowed(function, place), WAYS[way]) {
-        (Allowed::Split, "below") => 1,
-        (Allowed::Split, _) => 4,
+        (Allowed::Whole(low, _), "below") => low - 1,
+        (Allowed::Whole(_, high), _) => high + 1,
         (Allowed::Number(..), "NaN") => NAN,
         (Allowed::Number(..), "infinite") => f32::INFINITY.to_bits(),
         (Allowed::Number(low, _), "below") => neighbour(low, -1).to_bits(),
@@ -56,9 +57,10 @@ pub fn just_outside(function: Function, place: usize, way: usize) -> u32 {
 
 fn way(call: &Call, place: usize) -> Option<usize> {
     match allowed(call.function, place) {
-        Allowed::Split => match call.arguments.as_slice()[place] {
-            2 | 3 => None,
-            split => Some(if split < 2 { 2 } else { 3 }),
+        Allowed::Whole(low, high) => match call.arguments.as_slice()[place] {
+            n if n < low => Some(2),
+            n if n > high => Some(3),
+            _ => None,
         },
         Allowed::Number(low, high) => match call.arguments.number(place) {
             x if x.is_nan() => Some(0),

@@ -13,7 +13,7 @@ pub fn refusal_of(answer: &Words) -> u32 {
 /// The refusals that each function can give, besides an answer.
 pub fn refusals(function: Function) -> &'static [u32] {
     match function {
-        Function::MaximumSafeTimeAccurate => &[1, 2, 3],
+        Function::MaximumSafeTimeAccurate | Function::MaximumSafeTimeAllowing => &[1, 2, 3],
         Function::NormalizeCenterizedConfiguration => &[1, 2, 4, 5],
         Function::QuadraticRoot => &[1, 2, 9],
         Function::CubicRootsInRangeZeroToT => &[1, 2, 6, 7, 8],

@@ -41,7 +41,7 @@ impl Tally {
     /// Counts a call, and its difference where the rules' answer is not the original's and no entry says why.
     pub fn note(&mut self, judged: &Judged) {
         self.refused[judged.call.function as usize][refusal_of(&judged.expected) as usize] += 1;
-        if judged.call.function == Function::MaximumSafeTimeAccurate {
+        if judged.call.function.is_safe_time() {
             self.kinds[judged.word("kind") as usize] += 1;
             self.most_halvings = self.most_halvings.max(judged.word("halvings"));
         }

@@ -2,7 +2,7 @@
 """declared.py rattle|c|rust|layout|texts|words: the exported functions and their records, one a line, in words that are
 the same for the three languages. `rattle` reads the sources of the archive, `c` the header, `rust` the crate's
 declarations; tests/link holds the three lists to each other. `layout` prints the sizes and offsets that follow from the
-Rattle records, and the numbers of the kinds, as tests/face/layout.c and the Rust crate's test `layout` print them.
+Rattle records, the numbers of the kinds and the full allowance, as tests/face/layout.c and the Rust crate's test `layout` print them.
 `texts` prints README.md's table of refusals as these two print theirs, without those of scenes, which no exported
 function answers. `words` prints the words of each function's parameters and answer, as `tests/calls.py face` prints
 those of the stream.
@@ -130,6 +130,8 @@ def layout():
     answer = text("crates/urtemval/src/answer.rt")
     for name, number in re.findall(r"Answer::(\w+)\(\w+\) => timed\(\w+, (\d), [\w.]+, s\)", answer):
         lines.append(f"kind {name.upper()} {number}")
+    full = found(r"pub const FULL_ALLOWANCE: u32 = (\d+);", text("crates/admission/src/lib.rt"), "the full allowance")
+    lines.append(f"allowance FULL_ALLOWANCE {full.group(1)}")
     return lines
 
 

@@ -43,6 +43,7 @@ int main(void)
     CONSTANT("kind", CLEAR);
     CONSTANT("kind", BUDGET);
     CONSTANT("kind", REFUSED);
+    CONSTANT("allowance", FULL_ALLOWANCE);
     CONSTANT("split", EDGE_EDGE);
     CONSTANT("split", FACE_VERTEX);
     CONSTANT("refusal", NOT_FINITE);

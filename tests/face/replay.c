@@ -90,6 +90,14 @@ static int answer(uint32_t function, const uint32_t *in, uint32_t *out)
         safe = urtemval_safe_time(&x, &dx, in[SAFE_TIME_SPLIT], limits);
         memcpy(out, &safe, sizeof safe);
         return 1;
+    case SAFE_TIME_ALLOWING:
+        x = points(in + SAFE_TIME_ALLOWING_X0);
+        dx = points(in + SAFE_TIME_ALLOWING_DX);
+        memcpy(&limits, in + SAFE_TIME_ALLOWING_OFFSET, sizeof limits);
+        safe = urtemval_safe_time_allowing(&x, &dx, in[SAFE_TIME_ALLOWING_SPLIT], limits,
+                                           in[SAFE_TIME_ALLOWING_ALLOWANCE]);
+        memcpy(out, &safe, sizeof safe);
+        return 1;
     default:
         return 0;
     }

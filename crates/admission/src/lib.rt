@@ -71,7 +71,8 @@ pub fn admit_walk(
         & points_in_bound(dx)
         & limits_ranged(limits)
         & is_split(split)
-        & is_allowance(allowance) {
+        & is_allowance(allowance)
+    {
         return 0;
     }
     verdict(

@@ -19,6 +19,7 @@ pub(crate) fn answer(function: u32, call: &[u8], out: &mut [u8]) {
         10 => roots::cubic_roots_in_range_zero_to_t(call, out),
         11 => roots::coplanar_time_mat3x4(call, out),
         12 => safe_time::maximum_safe_time_accurate(call, out),
+        13 => safe_time::maximum_safe_time_allowing(call, out),
         _ => {}
     }
 }

@@ -2,6 +2,7 @@
 use crate::words;
 use admission::Limits;
 use ccd3::Answer;
+use ccd3::SafeTime;
 use ccd3::safe_time;
 
 // The kind and the time, or the refusal.
@@ -25,21 +26,39 @@ fn put_refusal(out: &mut [u8], refusal: u32) {
     words::put(out, 4, 4);
 }
 
-pub(crate) fn maximum_safe_time_accurate(call: &[u8], out: &mut [u8]) {
-    let limits = Limits {
-        offset: words::number(call, 104),
-        clearance: words::number(call, 108),
-        max_t: words::number(call, 112),
-        u_max: words::number(call, 116),
-    };
-    let safe = safe_time::maximum_safe_time_accurate(
-        words::points(call, 4),
-        words::points(call, 52),
-        words::split(call, 100),
-        limits,
-    );
+fn put_safe_time(out: &mut [u8], safe: SafeTime) {
     let answer = safe.answer;
     put_answer(out, answer);
     words::put(out, 12, safe.probes);
     words::put(out, 16, safe.halvings);
+}
+
+fn limits(call: &[u8]) -> Limits {
+    Limits {
+        offset: words::number(call, 104),
+        clearance: words::number(call, 108),
+        max_t: words::number(call, 112),
+        u_max: words::number(call, 116),
+    }
+}
+
+pub(crate) fn maximum_safe_time_accurate(call: &[u8], out: &mut [u8]) {
+    let safe = safe_time::maximum_safe_time_accurate(
+        words::points(call, 4),
+        words::points(call, 52),
+        words::split(call, 100),
+        limits(call),
+    );
+    put_safe_time(out, safe);
+}
+
+pub(crate) fn maximum_safe_time_allowing(call: &[u8], out: &mut [u8]) {
+    let safe = safe_time::maximum_safe_time_allowing(
+        words::points(call, 4),
+        words::points(call, 52),
+        words::split(call, 100),
+        limits(call),
+        words::word(call, 120),
+    );
+    put_safe_time(out, safe);
 }

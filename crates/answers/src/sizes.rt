@@ -3,7 +3,7 @@
 ghost use Prim.Native.Nat.{_<_, _≤_};
 
 pub(crate) fn of_call(function: u32) -> usize
-    ensures { λ r. ⌜ (0 < r) × (r ≤ 120) ⌝ }
+    ensures { λ r. ⌜ (0 < r) × (r ≤ 124) ⌝ }
 {
     match function {
         1 => 8,
@@ -15,6 +15,7 @@ pub(crate) fn of_call(function: u32) -> usize
         10 => 28,
         11 => 100,
         12 => 120,
+        13 => 124,
         _ => 4,
     }
 }
@@ -28,7 +29,7 @@ pub(crate) fn of_answer(function: u32) -> usize
         3 | 4 | 5 => 52,
         6 => 24,
         8 => 104,
-        9 | 10 | 11 | 12 => 20,
+        9 | 10 | 11 | 12 | 13 => 20,
         _ => 0,
     }
 }

@@ -1,27 +1,30 @@
--- More probes allowed: any answer but a budget stays as it is, and the time of a budget never falls
--- (specs/Allowance.antt). First of any walk, over any threshold; then of the safe time. Assumes nothing.
+-- More probes allowed: any answer but a budget stays as it is, and the time never falls (specs/Allowance.antt). First of
+-- any walk, over any threshold; then of the safe time. Assumes nothing.
 use mathlib.Core.Path.{_≡_, refl, sym, ap, _∙_, subst}
 use mathlib.Core.Bool.{Bool, true, false}
 use mathlib.Core.List.{List}
 use Prim.Native.Nat.{ℕ, zero, suc, _≤_}
 use native.Mathlib.Nat.{le-trans}
 use native.Mathlib.Omega.{arith}
-use lib.Dec.{T}
+use lib.Dec.{T, eqb, eqb→eq}
 use lib.Ieee.{Float, lt, le, ofBits}
+use lib.Ieee.Fits.{eq→eqb}
 use Rattle.number.specs.Number.{zero32}
 use Rattle.number.proofs.Comparing.{le-self}
 use Rattle.number.proofs.NoNan.{no-nan-le}
-use Rattle.number.proofs.Transitive.{le-le-trans}
 use Rattle.admission.specs.declared.Limits.{Limits}
 use Rattle.admission.specs.Admission.{fullAllowance, isAllowance}
 use Rattle.admission.proofs.Admitted.{range-allowance, walk-allowed}
-use Rattle.ccd3.specs.SafeTime.{numbersOf, Visit, next, Walked, visit, above, probing, walk, Rising, toldOf}
-use Rattle.ccd3.specs.SafeTime.{start, threshold, touches, safeRefusal, safeWalk, safeTimeOf, Promises}
+use Rattle.ccd3.specs.SafeTime.{numbersOf, Visit, next, Walked, visit, above, probing, walk, toldOf}
+use Rattle.ccd3.specs.SafeTime.{start, threshold, firstSquared, touches, safeRefusal, safeWalk, safeTimeOf}
 use Rattle.ccd3.specs.Allowance.{fiveOf, GrowsFrom}
 use Rattle.ccd3.proofs.WalkLaws.{walk-clears, walk-spends, walk-meets, walk-steps}
+use Rattle.ccd3.proofs.Standing.{Ground, Standing, Forward, start-stands, stands-on}
+use Rattle.ccd3.proofs.Kept.{walk-keeps}
+use Rattle.ccd3.proofs.Threshold.{start-far, forward}
 use Rattle.ccd3.proofs.StartLaws.{number-alike, walked, safe-refused, safe-touches, safe-walks}
-use Rattle.ccd3.proofs.Admitted.{Fitting}
-use Rattle.ccd3.proofs.Promises.{safe-time-promised}
+use Rattle.ccd3.proofs.Admitted.{Fitting, ground, given}
+use Rattle.ccd3.proofs.Promises.{admitted}
 
 -- the kind and the time of a walk's answer
 abbrev kindOf : Walked → ℕ
@@ -48,17 +51,7 @@ module _ (x₀ dx : List (List Float)) (split : ℕ) (threshold : Float) (l : Li
     abbrev Far : Bool → Type 0
     Far b = above x₀ dx split threshold t ≡ b
 
-    -- a walk that ends past the time limit, or in a contact, ends in no budget; one with no probe left does, where it is
-    clear-other : (left : ℕ) → Past true → kindOf (W left v) ≡ 3 → ⊥
-    unfolding numbersOf
-    clear-other left p e =
-        let z : _≡_ {A = ℕ} 2 3 = sym (ap kindOf (walk-clears x₀ dx split threshold l left v p)) ∙ e in omega arith
-
-    met-other : (left : ℕ) → Past false → Far false → kindOf (W (suc left) v) ≡ 3 → ⊥
-    unfolding numbersOf
-    met-other left p a e =
-        let z : _≡_ {A = ℕ} 1 3 = sym (ap kindOf (walk-meets x₀ dx split threshold l left v p a)) ∙ e in omega arith
-
+    -- with no probe left, and a step within the time limit, a walk ends in a budget where it is
     spent-kind : Past false → kindOf (W 0 v) ≡ 3
     unfolding numbersOf
     spent-kind p = ap kindOf (walk-spends x₀ dx split threshold l v p)
@@ -67,7 +60,15 @@ module _ (x₀ dx : List (List Float)) (split : ℕ) (threshold : Float) (l : Li
     unfolding numbersOf
     spent-time p = ap timeOf (walk-spends x₀ dx split threshold l v p)
 
-    -- one that goes on ends as it ends from there
+    -- walks that end past the time limit are the same, and so are those that meet; one that goes on ends as from there
+    clears-alike : (fewer more : ℕ) → Past true → W more v ≡ W fewer v
+    clears-alike fewer more p =
+        walk-clears x₀ dx split threshold l more v p ∙ sym (walk-clears x₀ dx split threshold l fewer v p)
+
+    meets-alike : (fewer more : ℕ) → Past false → Far false → W (suc more) v ≡ W (suc fewer) v
+    meets-alike fewer more p a =
+        walk-meets x₀ dx split threshold l more v p a ∙ sym (walk-meets x₀ dx split threshold l fewer v p a)
+
     steps : (left : ℕ) → Past false → Far true → W (suc left) v ≡ probing t (W left onward)
     steps left p a = walk-steps x₀ dx split threshold l left v p a
 
@@ -76,7 +77,7 @@ module _ (x₀ dx : List (List Float)) (split : ℕ) (threshold : Float) (l : Li
   walk-stays zero more h v other = go (lt (l .«max_t») (t v)) refl
     where
       go : (b : Bool) → Past v b → W more v ≡ W 0 v
-      go true p = walk-clears x₀ dx split threshold l more v p ∙ sym (walk-clears x₀ dx split threshold l 0 v p)
+      go true p = clears-alike v 0 more p
       go false p = absurd (other (spent-kind v p))
   walk-stays (suc fewer) zero h v other = absurd (omega arith)
   walk-stays (suc fewer) (suc more) h v other =
@@ -86,74 +87,48 @@ module _ (x₀ dx : List (List Float)) (split : ℕ) (threshold : Float) (l : Li
       go : (b c : Bool) → Past v b → Far v c
           → ((kindOf (W fewer (onward v)) ≡ 3 → ⊥) → W more (onward v) ≡ W fewer (onward v))
           → W (suc more) v ≡ W (suc fewer) v
-      go true c p a ih =
-          walk-clears x₀ dx split threshold l (suc more) v p
-          ∙ sym (walk-clears x₀ dx split threshold l (suc fewer) v p)
-      go false false p a ih =
-          walk-meets x₀ dx split threshold l more v p a ∙ sym (walk-meets x₀ dx split threshold l fewer v p a)
+      go true c p a ih = clears-alike v (suc fewer) (suc more) p
+      go false false p a ih = meets-alike v fewer more p a
       go false true p a ih =
           steps v more p a ∙ ap (probing (t v)) (ih (λ e. other (ap kindOf (steps v fewer p a) ∙ e)))
           ∙ sym (steps v fewer p a)
 
-  -- a budget's time is not before the visit's
-  budget-since : (left : ℕ) (v : Visit) → T (le (v .time) (v .time)) → Rising l (v .time) (W left v .probed)
-      → kindOf (W left v) ≡ 3 → T (le (v .time) (timeOf (W left v)))
-  unfolding Rising
-  budget-since zero v self rises e = go (lt (l .«max_t») (t v)) refl
-    where
-      go : (b : Bool) → Past v b → T (le (v .time) (timeOf (W 0 v)))
-      go true p = absurd (clear-other v 0 p e)
-      go false p = subst (λ (u : Float). T (le (v .time) u)) (sym (spent-time v p)) self
-  budget-since (suc left) v self rises e =
-      go (lt (l .«max_t») (t v)) (above x₀ dx split threshold (t v)) refl refl (budget-since left (onward v))
-    where
-      go : (b c : Bool) → Past v b → Far v c
-          → (T (le (t v) (t v)) → Rising l (t v) (W left (onward v) .probed) → kindOf (W left (onward v)) ≡ 3
-          → T (le (t v) (timeOf (W left (onward v)))))
-          → T (le (v .time) (timeOf (W (suc left) v)))
-      go true c p a ih = absurd (clear-other v (suc left) p e)
-      go false false p a ih = absurd (met-other v left p a e)
-      go false true p a ih =
-          let is = steps v left p a in
-          let r = subst (λ (w : Walked). Rising l (v .time) (w .probed)) is rises in
-          let self′ = le-self (t v) (no-nan-le (v .time) (t v) (r .0) .1) in
-          subst (λ (w : Walked). T (le (v .time) (timeOf w))) (sym is)
-          (le-le-trans (v .time) (t v) _ (r .0) (ih self′ (r .2) (sym (ap kindOf is) ∙ e)))
+  -- the time never falls
+  module _ (g : Ground x₀ dx split l) (onwards : Forward x₀ dx split l g threshold) where
+    abbrev Stands : Visit → Type 0
+    Stands = Standing x₀ dx split l g threshold
 
-  -- a budget was one with fewer probes allowed, at a time that is not after it
-  walk-grows : (fewer more : ℕ) → fewer ≤ more → (v : Visit) → T (le (v .time) (v .time))
-      → Rising l (v .time) (W more v .probed) → kindOf (W more v) ≡ 3
-      → (kindOf (W fewer v) ≡ 3) × T (le (timeOf (W fewer v)) (timeOf (W more v)))
-  unfolding Rising
-  walk-grows zero more h v self rises e = go (lt (l .«max_t») (t v)) refl
-    where
-      go : (b : Bool) → Past v b → (kindOf (W 0 v) ≡ 3) × T (le (timeOf (W 0 v)) (timeOf (W more v)))
-      go true p = absurd (clear-other v more p e)
-      go false p = (
-        spent-kind v p,
-        subst (λ (u : Float). T (le u (timeOf (W more v)))) (sym (spent-time v p)) (budget-since more v self rises e),
-      )
-  walk-grows (suc fewer) zero h v self rises e = absurd (omega arith)
-  walk-grows (suc fewer) (suc more) h v self rises e =
-      go (lt (l .«max_t») (t v)) (above x₀ dx split threshold (t v)) refl refl
-      (walk-grows fewer more (omega arith) (onward v))
-    where
-      go : (b c : Bool) → Past v b → Far v c
-          → (T (le (t v) (t v)) → Rising l (t v) (W more (onward v) .probed) → kindOf (W more (onward v)) ≡ 3
-          → (kindOf (W fewer (onward v)) ≡ 3) × T (le (timeOf (W fewer (onward v))) (timeOf (W more (onward v)))))
-          → (kindOf (W (suc fewer) v) ≡ 3) × T (le (timeOf (W (suc fewer) v)) (timeOf (W (suc more) v)))
-      go true c p a ih = absurd (clear-other v (suc more) p e)
-      go false false p a ih = absurd (met-other v more p a e)
-      go false true p a ih =
-          let is = steps v more p a in
-          let was = steps v fewer p a in
-          let r = subst (λ (w : Walked). Rising l (v .time) (w .probed)) is rises in
-          let self′ = le-self (t v) (no-nan-le (v .time) (t v) (r .0) .1) in
-          let k = ih self′ (r .2) (sym (ap kindOf is) ∙ e) in (
-            ap kindOf was ∙ k .0,
-            subst (λ (w : Walked). T (le (timeOf w) (timeOf (W (suc more) v)))) (sym was)
-                (subst (λ (w : Walked). T (le (timeOf (W fewer (onward v))) (timeOf w))) (sym is) (k .1)),
-          )
+    since : (n : ℕ) (v : Visit) → Stands v → T (le (v .time) (timeOf (W n v)))
+    since n v s = walk-keeps x₀ dx split l g threshold onwards n v s .since
+
+    -- walks that are the same end at the same time
+    same-time : (fewer more : ℕ) (v : Visit) → Stands v → W more v ≡ W fewer v
+        → T (le (timeOf (W fewer v)) (timeOf (W more v)))
+    same-time fewer more v s e =
+        subst (λ (w : Walked). T (le (timeOf (W fewer v)) (timeOf w))) (sym e)
+        (le-self (timeOf (W fewer v)) (no-nan-le (v .time) (timeOf (W fewer v)) (since fewer v s) .1))
+
+    walk-grows : (fewer more : ℕ) → fewer ≤ more → (v : Visit) → Stands v
+        → T (le (timeOf (W fewer v)) (timeOf (W more v)))
+    walk-grows zero more h v s = go (lt (l .«max_t») (t v)) refl
+      where
+        go : (b : Bool) → Past v b → T (le (timeOf (W 0 v)) (timeOf (W more v)))
+        go true p = same-time 0 more v s (clears-alike v 0 more p)
+        go false p = subst (λ (u : Float). T (le u (timeOf (W more v)))) (sym (spent-time v p)) (since more v s)
+    walk-grows (suc fewer) zero h v s = absurd (omega arith)
+    walk-grows (suc fewer) (suc more) h v s =
+        go (lt (l .«max_t») (t v)) (above x₀ dx split threshold (t v)) refl refl
+        (walk-grows fewer more (omega arith) (onward v))
+      where
+        go : (b c : Bool) → Past v b → Far v c
+            → (Stands (onward v) → T (le (timeOf (W fewer (onward v))) (timeOf (W more (onward v)))))
+            → T (le (timeOf (W (suc fewer) v)) (timeOf (W (suc more) v)))
+        go true c p a ih = same-time (suc fewer) (suc more) v s (clears-alike v (suc fewer) (suc more) p)
+        go false false p a ih = same-time (suc fewer) (suc more) v s (meets-alike v fewer more p a)
+        go false true p a ih =
+            subst (λ (w : Walked). T (le (timeOf w) (timeOf (W (suc more) v)))) (sym (steps v fewer p a))
+            (subst (λ (w : Walked). T (le (timeOf (W fewer (onward v))) (timeOf w))) (sym (steps v more p a))
+            (ih (stands-on x₀ dx split l g threshold onwards v s p a)))
 
 -- ---- the safe time
 zero-self : T (le zero32 zero32)
@@ -164,70 +139,75 @@ module _ (x₀ dx : List (List Float)) (split : ℕ) (l : Limits) where
   abbrev S : ℕ → Walked
   S = safeWalk x₀ dx split l
 
-  -- allowances in their range are refused alike
-  refused-alike : (a b : ℕ) → T (isAllowance a) → T (isAllowance b)
-      → safeRefusal x₀ dx split l a ≡ safeRefusal x₀ dx split l b
-  refused-alike a b m n =
-      number-alike x₀ dx split l a b (walk-allowed x₀ dx split l a m ∙ sym (walk-allowed x₀ dx split l b n))
-
   module _ (fewer more : ℕ) (h : fewer ≤ more) (a : T (isAllowance fewer)) (b : T (isAllowance more)) where
-    same : safeRefusal x₀ dx split l more ≡ safeRefusal x₀ dx split l fewer
-    same = refused-alike more fewer b a
+    -- allowances in their range are refused alike
+    alike : safeRefusal x₀ dx split l more ≡ safeRefusal x₀ dx split l fewer
+    alike =
+        number-alike x₀ dx split l more fewer
+        (walk-allowed x₀ dx split l more b ∙ sym (walk-allowed x₀ dx split l fewer a))
 
     safe-stays : (kindOf (S fewer) ≡ 3 → ⊥) → S more ≡ S fewer
     safe-stays other = go (safeRefusal x₀ dx split l fewer) (touches x₀ dx split l) refl refl
       where
         go : (n : ℕ) (b : Bool) → safeRefusal x₀ dx split l fewer ≡ n → touches x₀ dx split l ≡ b → S more ≡ S fewer
         go (suc n) b e t =
-            safe-refused x₀ dx split l more (suc n) (same ∙ e) (λ k. omega arith)
+            safe-refused x₀ dx split l more (suc n) (alike ∙ e) (λ k. omega arith)
             ∙ sym (safe-refused x₀ dx split l fewer (suc n) e (λ k. omega arith))
         go zero true e t =
-            safe-touches x₀ dx split l more (same ∙ e) t ∙ sym (safe-touches x₀ dx split l fewer e t)
+            safe-touches x₀ dx split l more (alike ∙ e) t ∙ sym (safe-touches x₀ dx split l fewer e t)
         go zero false e t =
             let is = safe-walks x₀ dx split l fewer e t in
-            safe-walks x₀ dx split l more (same ∙ e) t
+            safe-walks x₀ dx split l more (alike ∙ e) t
             ∙ walk-stays x₀ dx split (threshold l) l fewer more h (start x₀ dx split) (λ k. other (ap kindOf is ∙ k))
             ∙ sym is
 
-    safe-grows : Fitting x₀ l → kindOf (S more) ≡ 3
-        → (kindOf (S fewer) ≡ 3) × T (le (timeOf (S fewer)) (timeOf (S more)))
-    unfolding numbersOf
-    safe-grows f k = go (safeRefusal x₀ dx split l more) (touches x₀ dx split l) refl refl
+    -- what is no budget with fewer is none with more
+    budget-fewer : kindOf (S more) ≡ 3 → kindOf (S fewer) ≡ 3
+    budget-fewer k = go (eqb (kindOf (S fewer)) 3) refl
       where
-        go : (n : ℕ) (b : Bool) → safeRefusal x₀ dx split l more ≡ n → touches x₀ dx split l ≡ b
-            → (kindOf (S fewer) ≡ 3) × T (le (timeOf (S fewer)) (timeOf (S more)))
+        go : (b : Bool) → eqb (kindOf (S fewer)) 3 ≡ b → kindOf (S fewer) ≡ 3
+        go true e = eqb→eq (kindOf (S fewer)) 3 (subst T (sym e) tt)
+        go false e =
+            let other : kindOf (S fewer) ≡ 3 → ⊥ = λ m. subst T e (eq→eqb m) in
+            absurd (other (sym (ap kindOf (safe-stays other)) ∙ k))
+
+    safe-grows : Fitting x₀ l → T (le (timeOf (S fewer)) (timeOf (S more)))
+    unfolding numbersOf firstSquared
+    safe-grows f = go (safeRefusal x₀ dx split l fewer) (touches x₀ dx split l) refl refl
+      where
+        both : (v w : Walked) → S fewer ≡ v → S more ≡ w → T (le (timeOf v) (timeOf w))
+            → T (le (timeOf (S fewer)) (timeOf (S more)))
+        both v w p q h =
+            subst (λ (u : Walked). T (le (timeOf u) (timeOf (S more)))) (sym p)
+            (subst (λ (u : Walked). T (le (timeOf v) (timeOf u))) (sym q) h)
+
+        go : (n : ℕ) (b : Bool) → safeRefusal x₀ dx split l fewer ≡ n → touches x₀ dx split l ≡ b
+            → T (le (timeOf (S fewer)) (timeOf (S more)))
         go (suc n) b e t =
-            let z : _≡_ {A = ℕ} 4 3 =
-            sym (ap kindOf (safe-refused x₀ dx split l more (suc n) e (λ k. omega arith))) ∙ k in
-            absurd (omega arith)
+            both _ _ (safe-refused x₀ dx split l fewer (suc n) e (λ k. omega arith))
+            (safe-refused x₀ dx split l more (suc n) (alike ∙ e) (λ k. omega arith)) zero-self
         go zero true e t =
-            let z : _≡_ {A = ℕ} 0 3 = sym (ap kindOf (safe-touches x₀ dx split l more e t)) ∙ k in absurd (omega arith)
+            both _ _ (safe-touches x₀ dx split l fewer e t) (safe-touches x₀ dx split l more (alike ∙ e) t) zero-self
         go zero false e t =
-            let was = safe-walks x₀ dx split l fewer (sym same ∙ e) t in
-            let is = safe-walks x₀ dx split l more e t in
-            let p = safe-time-promised x₀ dx split l more f in
-            let rises = subst (λ (w : Walked). Rising l zero32 (w .probed)) is (p .steady (p .number ∙ e) .rising) in
-            let r =
-            walk-grows x₀ dx split (threshold l) l fewer more h (start x₀ dx split) zero-self rises
-            (sym (ap kindOf is) ∙ k)
-            in (
-              ap kindOf was ∙ r .0,
-              subst (λ (w : Walked). T (le (timeOf w) (timeOf (S more)))) (sym was)
-                  (subst (λ (w : Walked). T (le (timeOf (walked x₀ dx split l fewer)) (timeOf w))) (sym is) (r .1)),
-            )
+            let k = admitted x₀ dx split l fewer e in
+            let g = ground x₀ dx split l (k .0) f in
+            let d = given x₀ dx split l (k .0) f in
+            both (walked x₀ dx split l fewer) (walked x₀ dx split l more) (safe-walks x₀ dx split l fewer e t)
+            (safe-walks x₀ dx split l more (alike ∙ e) t)
+            (walk-grows x₀ dx split (threshold l) l g (forward x₀ dx split l g d) fewer more h (start x₀ dx split)
+            (start-stands x₀ dx split l g (threshold l) (start-far x₀ dx split l g d (k .2) t)))
 
-  -- a budget's allowance is in its range
-  in-range : (allowed : ℕ) → Fitting x₀ l → kindOf (S allowed) ≡ 3 → allowed ≤ fullAllowance
-  unfolding safeTimeOf
-  in-range allowed f k = go (numbersOf (S allowed .ending .answer) .0) refl
+  -- the allowance of a budget is in its range
+  budget-range : (allowed : ℕ) → kindOf (S allowed) ≡ 3 → allowed ≤ fullAllowance
+  unfolding numbersOf
+  budget-range allowed k = go (safeRefusal x₀ dx split l allowed) refl
     where
-      p : Promises x₀ dx split l allowed (safeTimeOf x₀ dx split l allowed)
-      p = safe-time-promised x₀ dx split l allowed f
-
-      go : (n : ℕ) → numbersOf (S allowed .ending .answer) .0 ≡ n → allowed ≤ fullAllowance
-      go zero e = p .in-range e .1
+      go : (n : ℕ) → safeRefusal x₀ dx split l allowed ≡ n → allowed ≤ fullAllowance
+      go zero e = admitted x₀ dx split l allowed e .1 .1
       go (suc n) e =
-          let z : _≡_ {A = ℕ} 4 3 = sym (p .refused (λ m. omega arith) .0) ∙ k in absurd (omega arith)
+          let z : _≡_ {A = ℕ} 4 3 =
+          sym (ap kindOf (safe-refused x₀ dx split l allowed (suc n) e (λ k. omega arith))) ∙ k in
+          absurd (omega arith)
 
   -- of every answer
   pub safe-time-grows : (allowed : ℕ) → Fitting x₀ l
@@ -238,13 +218,11 @@ module _ (x₀ dx : List (List Float)) (split : ℕ) (l : Limits) where
         ap (λ (w : Walked). fiveOf (toldOf w))
         (safe-stays allowed more h (range-allowance allowed least (le-trans h most))
         (range-allowance more (le-trans least h) most) other);
-    budget-before = λ k fewer least h. before k fewer least h .0;
-    never-falls = λ k fewer least h. before k fewer least h .1;
+    budget-before = λ k fewer least h.
+        let most = budget-range allowed k in
+        budget-fewer fewer allowed h (range-allowance fewer least (le-trans h most))
+        (range-allowance allowed (le-trans least h) most) k;
+    never-falls = λ most fewer least h.
+        safe-grows fewer allowed h (range-allowance fewer least (le-trans h most))
+        (range-allowance allowed (le-trans least h) most) f;
   }
-    where
-      before : kindOf (S allowed) ≡ 3 → (fewer : ℕ) → 1 ≤ fewer → fewer ≤ allowed
-          → (kindOf (S fewer) ≡ 3) × T (le (timeOf (S fewer)) (timeOf (S allowed)))
-      before k fewer least h =
-          let most = in-range allowed f k in
-          safe-grows fewer allowed h (range-allowance fewer least (le-trans h most))
-          (range-allowance allowed (le-trans least h) most) f k

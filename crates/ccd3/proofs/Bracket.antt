@@ -34,10 +34,11 @@ timely-le x y z a b c p q =
 pub timely-refl : (x : Float) → Timely x → T (le x x)
 timely-refl x a = says-le x x (a .units) (a .units) (a .is) (a .is) (omega arith)
 
--- the ends of a halving are timely, and the upper one is not above the first
-pub record Held (hi : Float) (r : Halved) : Type 0 where
+-- the ends of a halving are timely, and lie between the first ones
+pub record Held (lo hi : Float) (r : Halved) : Type 0 where
   pub lower : Timely (r .lower)
   pub upper : Timely (r .upper)
+  pub over : T (le lo (r .lower))
   pub under : T (le (r .upper) hi)
 
 module _ (p : Float → Bool) (n : ℕ) (lo hi : Float) (i : Inv p n lo hi) where
@@ -55,11 +56,14 @@ module _ (p : Float → Bool) (n : ℕ) (lo hi : Float) (i : Inv p n lo hi) wher
   sign-middle : T (plus (midpoint lo hi))
   sign-middle = mid-plus lo hi (i .u) (i .v) (i .span .low .is) (i .span .high .is) (i .plus-hi)
 
+  low : Timely lo
+  low = record { units = i .u; is = i .span .low .is; fit = i .fit-lo; sign = i .plus-lo }
+
   high : Timely hi
   high = record { units = i .v; is = i .span .high .is; fit = i .fit-hi; sign = i .plus-hi }
 
   -- after one halving
-  once : (r : Halved) → r .lower ≡ nextLower p lo hi → r .upper ≡ nextUpper p lo hi → Held hi r
+  once : (r : Halved) → r .lower ≡ nextLower p lo hi → r .upper ≡ nextUpper p lo hi → Held lo hi r
   once r a b =
       let s = step-at lo hi (nextLower p lo hi) (nextUpper p lo hi) (i .u) (i .v) (i .span)
       (split-of (p (midpoint lo hi))) in
@@ -78,6 +82,9 @@ module _ (p : Float → Bool) (n : ℕ) (lo hi : Float) (i : Inv p n lo hi) wher
       record {
         lower = subst Timely (sym a) lower′;
         upper = subst Timely (sym b) upper′;
+        over =
+            subst (λ (x : Float). T (le lo x)) (sym a)
+            (says-le lo (nextLower p lo hi) (i .u) (s .0) (i .span .low .is) (s .2 .low .is) (s .2 .from));
         under =
             subst (λ (x : Float). T (le x hi)) (sym b)
             (says-le (nextUpper p lo hi) hi (s .1) (i .v) (s .2 .high .is) (i .span .high .is) (s .2 .to));
@@ -85,7 +92,7 @@ module _ (p : Float → Bool) (n : ℕ) (lo hi : Float) (i : Inv p n lo hi) wher
 
 -- all along
 held-from : (p : Float → Bool) (k n : ℕ) (lo hi : Float) → n + k ≡ 255 → Inv p n lo hi
-    → Held hi (halve p k n lo hi)
+    → Held lo hi (halve p k n lo hi)
 unfolding halve
 held-from p zero n lo hi e i = absurd (few p n lo hi i (omega arith))
 held-from p (suc k) n lo hi e i = go (repeats p lo hi) refl (held-from p k (suc n) lo′ hi′ (omega arith))
@@ -96,8 +103,8 @@ held-from p (suc k) n lo hi e i = go (repeats p lo hi) refl (held-from p k (suc 
     hi′ : Float
     hi′ = nextUpper p lo hi
 
-    go : (b : Bool) → repeats p lo hi ≡ b → (Inv p (suc n) lo′ hi′ → Held hi′ (halve p k (suc n) lo′ hi′))
-        → Held hi (elim b as (λ _. Halved) [
+    go : (b : Bool) → repeats p lo hi ≡ b → (Inv p (suc n) lo′ hi′ → Held lo′ hi′ (halve p k (suc n) lo′ hi′))
+        → Held lo hi (elim b as (λ _. Halved) [
           | true ↦ record { lower = lo′; upper = hi′; count = suc n; stopped = true }
           | false ↦ halve p k (suc n) lo′ hi′
         ])
@@ -109,6 +116,7 @@ held-from p (suc k) n lo hi e i = go (repeats p lo hi) refl (held-from p k (suc 
         record {
           lower = h .lower;
           upper = h .upper;
+          over = timely-le _ _ _ (low p n lo hi i) (o .lower) (h .lower) (o .over) (h .over);
           under = timely-le _ _ _ (h .upper) (o .upper) (high p n lo hi i) (h .under) (o .under);
         }
 
@@ -122,7 +130,7 @@ pub record Bracket (p : Float → Bool) (lo hi : Float) : Type 0 where
   pub near : p hi ≡ false
 
 pub bracket-ends : (p : Float → Bool) (lo hi : Float) → Bracket p lo hi
-    → Ends p (halve p 255 0 lo hi) × Held hi (halve p 255 0 lo hi)
+    → Ends p (halve p 255 0 lo hi) × Held lo hi (halve p 255 0 lo hi)
 bracket-ends p lo hi b =
     let i = begin p lo hi (b .low .fit) (b .high .fit) (b .low .sign) (plus-up lo (b .low .sign)) (b .order) (b .top)
     (b .far) (b .near) in

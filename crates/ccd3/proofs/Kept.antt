@@ -1,5 +1,5 @@
 -- Every walk from a place to stand keeps the promises (specs/SafeTime.antt): the counts, the range of the time, and the
--- computed squared distance at the time, at its neighbour and at the probes. Of any number of probes allowed, and any
+-- computed squared distance at the time, at its neighbour and at the probes; and its time is not before that place. Of any number of probes allowed, and any
 -- threshold above which no step is below zero. Assumes nothing.
 use mathlib.Core.Path.{_≡_, refl, sym, ap, _∙_, subst}
 use mathlib.Core.Bool.{Bool, true, false, cond}
@@ -15,12 +15,13 @@ use lib.Ieee.Fits.{eq→eqb}
 use Rattle.number.specs.Number.{zero32, nextUp, written, halve}
 use Rattle.number.proofs.NextUp.{next-of}
 use Rattle.number.proofs.Signs.{plus-up}
-use Rattle.number.proofs.Units.{zero-is, plus, same-float}
+use Rattle.number.proofs.Transitive.{le-le-trans}
+use Rattle.number.proofs.Units.{Unit32, zero-is, plus, same-float}
 use Rattle.number.proofs.Units.Compared.{Is, finite-is, eq-is, lt-says, says-lt, le-says, says-le}
 use Rattle.admission.specs.declared.Limits.{Limits}
 use Rattle.ccd3.specs.declared.Answer.{Answer}
 use Rattle.ccd3.specs.declared.Answer.the-variants.{Touching, Contact, Clear, Budget, Refused}
-use Rattle.ccd3.specs.SafeTime.{Visit, next, Walked, visit, above, closing, walk, InTime, Every, Rising}
+use Rattle.ccd3.specs.SafeTime.{numbersOf, Visit, next, Walked, visit, above, closing, walk, InTime, Every, Rising}
 use Rattle.ccd3.specs.SafeTime.{Stopped}
 use Rattle.ccd3.proofs.WalkLaws.{walk-clears, walk-spends, walk-meets, walk-steps}
 use Rattle.ccd3.proofs.Bracket.{Timely, timely-refl, Bracket, bracket-ends}
@@ -73,6 +74,21 @@ module _ (x₀ dx : List (List Float)) (split : ℕ) (l : Limits) (g : Ground x�
           } in
           in-time (l .«max_t») i (timely-refl (l .«max_t») i)
 
+  -- it is not before a time that is in time
+  limit-after : (t : Float) → Timely t → T (le t (l .«max_t»)) → T (le t (written (l .«max_t»)))
+  unfolding written
+  limit-after t i h = go (eq (l .«max_t») zero32) (eq-is (l .«max_t») zero32 (m .0) 0 (m .1 .is) zero-is)
+    where
+      m : (u : ℕ) × Unit32 (l .«max_t») u
+      m = limit-units x₀ dx split l g
+
+      go : (b : Bool) → b ≡ eqb (m .0) 0 → T (le t (cond b zero32 (l .«max_t»)))
+      go true e =
+          let z : m .0 ≡ 0 = eqb→eq (m .0) 0 (subst T e tt) in
+          says-le t zero32 (i .units) 0 (i .is) zero-is
+          (subst (λ (u : ℕ). i .units ≤ u) z (le-says t (l .«max_t») (i .units) (m .0) (i .is) (m .1 .is) h))
+      go false e = h
+
   -- ---- over a threshold
   module _ (threshold : Float) where
     abbrev far : Float → Bool
@@ -90,6 +106,7 @@ module _ (x₀ dx : List (List Float)) (split : ℕ) (l : Limits) (g : Ground x�
       pub probes : length (w .probed) ≤ left
       pub halvings : w .ending .halvings ≤ 256
       pub rising : Rising l (v .time) (w .probed)
+      pub since : T (le (v .time) (numbersOf (w .ending .answer) .2))
       pub says : Says left (w .probed) (w .ending .answer)
 
     -- a bracket within the limit stops well
@@ -97,6 +114,7 @@ module _ (x₀ dx : List (List Float)) (split : ℕ) (l : Limits) (g : Ground x�
         → InTime l (closing x₀ dx split threshold lower upper .lower)
         × Stopped far l (closing x₀ dx split threshold lower upper .lower)
         × (closing x₀ dx split threshold lower upper .count ≤ 256)
+        × T (le lower (closing x₀ dx split threshold lower upper .lower))
     unfolding closing
     stopped lower upper h b =
         let r = bracket-ends far lower upper b in
@@ -123,6 +141,7 @@ module _ (x₀ dx : List (List Float)) (split : ℕ) (l : Limits) (g : Ground x�
             next-in-time = subst (λ (t : Float). T (le t (l .«max_t»))) n under;
           },
           le-trans (e .bounded) (lit≤ tt),
+          k .over,
         )
 
     -- ---- every walk
@@ -153,24 +172,31 @@ module _ (x₀ dx : List (List Float)) (split : ℕ) (l : Limits) (g : Ground x�
         )
 
         clear-keeps : (left : ℕ) → lt (l .«max_t») t ≡ true → Kept left v (W left v)
-        unfolding Every Rising
+        unfolding Every Rising numbersOf
         clear-keeps left p =
             subst (Kept left v) (sym (walk-clears x₀ dx split threshold l left v p))
-            (record { probes = zero-le; halvings = zero-le; rising = tt; says = (refl, tt) })
+            (record {
+              probes = zero-le;
+              halvings = zero-le;
+              rising = tt;
+              since = limit-after (v .time) (s .time) (s .in-limit);
+              says = (refl, tt);
+            })
 
         spent-keeps : lt (l .«max_t») t ≡ false → Kept 0 v (W 0 v)
-        unfolding Rising
+        unfolding Rising numbersOf
         spent-keeps p =
             subst (Kept 0 v) (sym (walk-spends x₀ dx split threshold l v p))
             (record {
               probes = zero-le;
               halvings = zero-le;
               rising = tt;
+              since = timely-refl (v .time) (s .time);
               says = (in-time (v .time) (s .time) (s .in-limit), s .apart-at, refl);
             })
 
         met-keeps : (left : ℕ) → lt (l .«max_t») t ≡ false → far t ≡ false → Kept (suc left) v (W (suc left) v)
-        unfolding Rising
+        unfolding Rising numbersOf
         met-keeps left p a =
             let r = stopped (v .time) t (next-limit x₀ dx split l g threshold forward v s p)
             (brackets x₀ dx split l g threshold forward v s p a) in
@@ -180,6 +206,7 @@ module _ (x₀ dx : List (List Float)) (split : ℕ) (l : Limits) (g : Ground x�
               probes = suc-le-suc zero-le;
               halvings = r .2;
               rising = (q .0, q .1, tt);
+              since = r .3;
               says = (r .0, r .1);
             })
 
@@ -194,6 +221,7 @@ module _ (x₀ dx : List (List Float)) (split : ℕ) (l : Limits) (g : Ground x�
               probes = suc-le-suc (k .probes);
               halvings = k .halvings;
               rising = (q .0, q .1, k .rising);
+              since = le-le-trans (v .time) t _ (q .0) (k .since);
               says = every left t (w .probed) a (w .ending .answer) (k .says);
             })
 

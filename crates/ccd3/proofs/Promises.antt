@@ -136,7 +136,7 @@ module _ (x₀ dx : List (List Float)) (split : ℕ) (l : Limits) (allowed : ℕ
       walk-promised = by-answer (w .ending .answer) (kept .says)
 
   -- what is not refused
-  admitted : safeRefusal x₀ dx split l allowed ≡ 0
+  pub admitted : safeRefusal x₀ dx split l allowed ≡ 0
       → Walkable x₀ dx split l × ((1 ≤ allowed) × (allowed ≤ fullAllowance)) × (between x₀ dx split l ≡ false)
   admitted e =
       let k = number-none x₀ dx split l allowed e in

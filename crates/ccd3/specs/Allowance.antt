@@ -17,13 +17,15 @@ module _ (x₀ dx : List (List Float)) (split : ℕ) (l : Limits) where
   abbrev pub answerAt : ℕ → ℕ × ℕ × Float × ℕ × ℕ
   answerAt allowed = fiveOf (safeTimeOf x₀ dx split l allowed)
 
-  -- the numbers of an answer. Any but a budget (kind 3) is the answer of every larger allowance, counts included. A
-  -- budget is one of every smaller allowance, too, at a time that is not after its own.
+  -- the numbers of an answer. Any but a budget (kind 3) is the answer of every larger allowance, counts included; a
+  -- budget is one of every smaller allowance, too. Whatever the kinds are, the time of a smaller allowance is not after
+  -- its own.
   pub record Grows (allowed refusal kind : ℕ) (time : Float) (probes halvings : ℕ) : Type 0 where
     pub stays : (kind ≡ 3 → ⊥) → 1 ≤ allowed → (more : ℕ) → allowed ≤ more → more ≤ fullAllowance
         → answerAt more ≡ (refusal, kind, time, probes, halvings)
     pub budget-before : kind ≡ 3 → (fewer : ℕ) → 1 ≤ fewer → fewer ≤ allowed → answerAt fewer .1 ≡ 3
-    pub never-falls : kind ≡ 3 → (fewer : ℕ) → 1 ≤ fewer → fewer ≤ allowed → T (le (answerAt fewer .2) time)
+    pub never-falls : allowed ≤ fullAllowance → (fewer : ℕ) → 1 ≤ fewer → fewer ≤ allowed
+        → T (le (answerAt fewer .2) time)
 
 -- of an answer as the library gives it
 abbrev pub GrowsFrom : List (List Float) → List (List Float) → ℕ → Limits → ℕ → SafeTime → Type 0

@@ -103,7 +103,6 @@ pub fn maximum_safe_time_accurate(
 ) -> SafeTime
     ensures answer { λ r. ⌜ r ≡ Def.safeTimeOf x0 dx split limits fullAllowance ⌝ }
     ensures promised { λ r. ⌜ Def.Promises x0 dx split limits fullAllowance r ⌝ }
-    ensures grows { λ r. ⌜ GrowsFrom x0 dx split limits fullAllowance r ⌝ }
 {
     maximum_safe_time_allowing(x0, dx, split, limits, FULL_ALLOWANCE)
 }

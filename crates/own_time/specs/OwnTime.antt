@@ -6,7 +6,7 @@ use mathlib.Core.List.{List}
 use lib.Ieee.{Float}
 use Rattle.number.specs.Number.{unitsOf}
 use Rattle.pair.specs.Points.{largestExact, normOf}
-use Rattle.admission.specs.declared.Limits.{Limits}
+use Rattle.admission.specs.{declared.Limits.Limits, Admission.fullAllowance}
 use Rattle.ccd3.specs.declared.SafeTime.{SafeTime}
 use Rattle.ccd3.specs.SafeTime.{numbersOf, safeTimeOf, Promises}
 
@@ -15,10 +15,10 @@ module _ (x₀ dx : List (List Float)) (split : ℕ) (offset clearance maxT : Fl
   ownLimits = record { offset = offset; clearance = clearance; «max_t» = maxT; «u_max» = normOf dx split }
 
   abbrev pub ownSafeTime : SafeTime
-  ownSafeTime = safeTimeOf x₀ dx split ownLimits
+  ownSafeTime = safeTimeOf x₀ dx split ownLimits fullAllowance
 
   abbrev pub OwnPromises : SafeTime → Type 0
-  OwnPromises = Promises x₀ dx split ownLimits
+  OwnPromises = Promises x₀ dx split ownLimits fullAllowance
 
   -- where it is not refused, u_max is not below the exact largest distance of two displacements, in whole numbers
   abbrev pub OwnSpeed : SafeTime → Type 0

@@ -1,5 +1,6 @@
 // One line for a call: its name, its answer, and what lies there afterwards where something was lent.
 use super::text;
+use admission::FULL_ALLOWANCE;
 use admission::Limits;
 use motion::record;
 use motion::scaling;
@@ -87,7 +88,12 @@ pub(crate) fn times(name: &[u8], lent: [[f32; 3]; 4], s: f32) {
 
 // The admission of a safe time.
 pub(crate) fn admitted(name: &[u8], x: [[f32; 3]; 4], split: usize, limits: Limits) {
+    allowed(name, x, split, limits, FULL_ALLOWANCE);
+}
+
+// The same, with so many probes allowed.
+pub(crate) fn allowed(name: &[u8], x: [[f32; 3]; 4], split: usize, limits: Limits, allowance: u32) {
     text::text(name);
-    text::refusal(admission::admit_walk(x, x, split, limits));
+    text::refusal(admission::admit_walk(x, x, split, limits, allowance));
     text::end();
 }

@@ -131,6 +131,11 @@ fn admissions() {
     cases::admitted(b"u_max above 2^60", many(), 3, limits(0.0, 1.1529217e18));
     cases::admitted(b"split 4", many(), 4, limits(1.0, 1.0));
     cases::admitted(b"split 4, nan", many(), 4, limits(nan(), 1.0));
+    cases::allowed(b"allowance 0", many(), 2, limits(1.0, 1.0), 0);
+    cases::allowed(b"allowance 1", many(), 2, limits(1.0, 1.0), 1);
+    cases::allowed(b"allowance 4096", many(), 2, limits(1.0, 1.0), 4096);
+    cases::allowed(b"allowance 4097", many(), 2, limits(1.0, 1.0), 4097);
+    cases::allowed(b"allowance 0, nan", many(), 2, limits(nan(), 1.0), 0);
 }
 
 fn main() {

@@ -1,7 +1,9 @@
 // One line of the output.
 use admission::Limits;
 use ccd3::Answer;
+use ccd3::SafeTime;
 use ccd3::safe_time::maximum_safe_time_accurate;
+use ccd3::safe_time::maximum_safe_time_allowing;
 use libc::STDOUT_FILENO;
 
 fn text(s: &[u8]) {
@@ -48,14 +50,7 @@ fn answer(a: Answer) {
 }
 
 // The line of a pair: its name, how it ends with the time, the probes and the halvings.
-pub(crate) fn walked(
-    name: &[u8],
-    x: [[f32; 3]; 4],
-    dx: [[f32; 3]; 4],
-    split: usize,
-    limits: Limits,
-) {
-    let r = maximum_safe_time_accurate(x, dx, split, limits);
+fn told(name: &[u8], r: SafeTime) {
     text(name);
     text(b": ");
     let a = r.answer;
@@ -63,4 +58,29 @@ pub(crate) fn walked(
     count(r.probes);
     count(r.halvings);
     text(b"\n");
+}
+
+pub(crate) fn walked(
+    name: &[u8],
+    x: [[f32; 3]; 4],
+    dx: [[f32; 3]; 4],
+    split: usize,
+    limits: Limits,
+) {
+    told(name, maximum_safe_time_accurate(x, dx, split, limits));
+}
+
+// With so many probes allowed.
+pub(crate) fn allowing(
+    name: &[u8],
+    x: [[f32; 3]; 4],
+    dx: [[f32; 3]; 4],
+    split: usize,
+    limits: Limits,
+    allowance: u32,
+) {
+    told(
+        name,
+        maximum_safe_time_allowing(x, dx, split, limits, allowance),
+    );
 }

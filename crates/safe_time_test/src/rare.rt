@@ -1,17 +1,41 @@
 // Rare ends of a walk: 4,096 probes, 150 halvings, contact at time 0, steps of length zero.
+use crate::line::allowing;
 use crate::line::walked;
 use crate::pairs;
 use admission::Limits;
 
 // Edges at a right angle that come together slowly.
-fn slow_edges(name: &[u8], limits: Limits) {
-    let x = [
+fn slow_points() -> [[f32; 3]; 4] {
+    [
         [0.0, 0.0, 0.0],
         [4.7683716e-7, 0.0, 0.0],
         [0.0, -4.7683716e-7, 3.3001123e-7],
         [0.0, 4.7683716e-7, 3.3001123e-7],
-    ];
-    walked(name, x, pairs::raised(0.0, -6.6002247e-7), 2, limits);
+    ]
+}
+
+fn slow_moves() -> [[f32; 3]; 4] {
+    pairs::raised(0.0, -6.6002247e-7)
+}
+
+// Probe 4,096 finds the contact.
+fn slow_limits() -> Limits {
+    pairs::limits(0.0, 4.907129e-8, 1.0, 0.0010722749)
+}
+
+fn slow_edges(name: &[u8], limits: Limits) {
+    walked(name, slow_points(), slow_moves(), 2, limits);
+}
+
+pub(crate) fn slow_edges_allowing(name: &[u8], allowance: u32) {
+    allowing(
+        name,
+        slow_points(),
+        slow_moves(),
+        2,
+        slow_limits(),
+        allowance,
+    );
 }
 
 // The same of a face and a vertex.
@@ -70,10 +94,7 @@ fn zero_steps() {
 }
 
 pub(crate) fn all() {
-    slow_edges(
-        b"slow edges, contact at the last probe",
-        pairs::limits(0.0, 4.907129e-8, 1.0, 0.0010722749),
-    );
+    slow_edges(b"slow edges, contact at the last probe", slow_limits());
     slow_edges(
         b"slow edges, clear after the last probe",
         pairs::limits(0.0, 4.907129e-8, 0.40623862, 0.0012867299),

@@ -5,7 +5,7 @@ use crate::bounds::Bound;
 use crate::calls::Call;
 use crate::functions::Function;
 use crate::laws::Law;
-use crate::model::{Linear, Points, Rules, SLOWEST};
+use crate::model::{Linear, Points, Rules, FULL_ALLOWANCE, SLOWEST};
 use crate::refusals::refusal_of;
 use crate::words::Words;
 
@@ -22,13 +22,15 @@ pub struct Fault {
 
 pub const NONE: Fault = Fault { name: "none", rules: Rules::DOCUMENT, distort: |_, _| {}, laws: &[], bounds: &[] };
 
-pub const FAULTS: [Fault; 29] = [
+pub const FAULTS: [Fault; 31] = [
     Fault { name: "interior-of-edges-left-out", rules: Rules { left_out: [Some(4), None], ..Rules::DOCUMENT }, ..NONE },
     Fault { name: "edge-of-face-left-out", rules: Rules { left_out: [None, Some(2)], ..Rules::DOCUMENT }, ..NONE },
     Fault { name: "last-of-equals", rules: Rules { last_of_equals: true, ..Rules::DOCUMENT }, ..NONE },
     Fault { name: "slack-halved", rules: Rules { round_slack: 1.0 / 8_388_608.0, ..Rules::DOCUMENT }, ..NONE },
     Fault { name: "slack-left-out", rules: Rules { coordinate_slack: 0.0, ..Rules::DOCUMENT }, ..NONE },
-    Fault { name: "one-probe-more", rules: Rules { probes: 4097, ..Rules::DOCUMENT }, ..NONE },
+    Fault { name: "one-probe-more", rules: Rules { probes: |allowance| allowance + 1, ..Rules::DOCUMENT }, ..NONE },
+    Fault { name: "allowance-ignored", rules: Rules { probes: |_| FULL_ALLOWANCE, ..Rules::DOCUMENT }, ..NONE },
+    Fault { name: "allowance-of-zero", rules: Rules { least_allowance: 0, ..Rules::DOCUMENT }, ..NONE },
     Fault { name: "one-newton-step-fewer", rules: Rules { newton_steps: 19, ..Rules::DOCUMENT }, ..NONE },
     Fault {
         name: "halving-stopped-early",
@@ -95,7 +97,7 @@ fn renumber(answer: &mut Words, from: u32, to: u32) {
 }
 
 fn one_halving_fewer(call: &Call, answer: &mut Words) {
-    if call.function == Function::MaximumSafeTimeAccurate {
+    if call.function.is_safe_time() {
         let place = call.function.answer("halvings").at;
         answer.set(place, answer.as_slice()[place].saturating_sub(1));
     }
@@ -104,7 +106,7 @@ fn one_halving_fewer(call: &Call, answer: &mut Words) {
 fn minus_zero_time(call: &Call, answer: &mut Words) {
     let minus_zero = (-0.0f32).to_bits();
     let clear = || answer.as_slice()[call.function.answer("kind").at] == 2;
-    if call.function == Function::MaximumSafeTimeAccurate && clear() && call.word("max_t") == minus_zero {
+    if call.function.is_safe_time() && clear() && call.word("max_t") == minus_zero {
         answer.set(call.function.answer("time").at, minus_zero);
     }
 }

@@ -1,7 +1,7 @@
-//! Single arguments: splits, points, an argument of the square root, times, lengths.
+//! Single arguments: splits, points, an argument of the square root, times, lengths, allowances.
 
 use super::numbers::{neighbour, Source};
-use crate::model::{Points, BOUND};
+use crate::model::{Points, BOUND, FULL_ALLOWANCE};
 
 impl Source {
     pub fn split(&mut self) -> u32 {
@@ -55,6 +55,17 @@ impl Source {
             1 => self.sized(-149, 19),
             2 => self.sized(-20, 10),
             _ => self.sized(-12, 0),
+        }
+    }
+
+    /// A number of probes allowed: the ends of its range, mostly few.
+    pub fn allowance(&mut self) -> u32 {
+        match self.below(8) {
+            0 => FULL_ALLOWANCE,
+            1 => FULL_ALLOWANCE - 1,
+            2 => 1 + self.below(FULL_ALLOWANCE),
+            3 | 4 => 1 + self.below(64),
+            _ => 1 + self.below(3),
         }
     }
 }

@@ -20,7 +20,7 @@ use crate::words::{Words, NAN};
 pub use numbers::{neighbour, power_of_two};
 
 /// How many of a thousand calls are of each function, in the order of their numbers.
-const SHARES: [u32; FUNCTIONS.len()] = [20, 10, 10, 20, 15, 65, 30, 110, 60, 500, 40, 120];
+const SHARES: [u32; FUNCTIONS.len()] = [20, 10, 10, 20, 15, 65, 30, 110, 60, 480, 40, 100, 40];
 
 impl Source {
     /// The next call of a run.
@@ -99,6 +99,7 @@ impl Source {
                 Words::new().points(&motion.x).points(&motion.dx)
             }
             Function::MaximumSafeTimeAccurate => self.safe_time(split),
+            Function::MaximumSafeTimeAllowing => self.safe_time(split).word(self.allowance()),
         }
     }
 
@@ -107,7 +108,9 @@ impl Source {
         for _ in 0..self.between(1, 2) {
             let place = self.below(call.function.arguments() as u32) as usize;
             let word = match allowed(call.function, place) {
-                Allowed::Split => self.pick(&[0, 1, 4, 5, 258, 0x8000_0002, u32::MAX]),
+                Allowed::Whole(low, high) => {
+                    self.pick(&[0, low - 1, high + 1, high + 2, 0x1_0000 + low, 0x8000_0000 + low, u32::MAX])
+                }
                 Allowed::Number(low, high) => self.beyond(low, high),
             };
             call.arguments.set(place, word);

@@ -9,8 +9,16 @@ pub fn calls() -> impl Iterator<Item = Call> {
     let of = |function: Function| move |words: &&str| Call::new(function, Words::from_hex(words));
     let polynomials = POLYNOMIALS.iter().map(of(Function::CubicRootsInRangeZeroToT));
     let motions = MOTIONS.iter().map(of(Function::CoplanarTimeMat3x4));
-    polynomials.chain(motions).chain(SAFE_TIMES.iter().map(of(Function::MaximumSafeTimeAccurate)))
+    let safe_times = SAFE_TIMES.iter().map(of(Function::MaximumSafeTimeAccurate));
+    let allowing = |words: &&'static str| {
+        let words = Words::from_hex(words);
+        ALLOWANCES.iter().map(move |&n| Call::new(Function::MaximumSafeTimeAllowing, words.word(n)))
+    };
+    polynomials.chain(motions).chain(safe_times).chain(SAFE_TIMES.iter().flat_map(allowing))
 }
+
+/// The numbers of probes with which each rare safe time is asked once more.
+const ALLOWANCES: [u32; 7] = [0, 1, 2, 3, 4095, 4096, 4097];
 
 /// c0, c1, c2, c3, t and epsilon.
 pub const POLYNOMIALS: [&str; 5] = [

@@ -1,7 +1,7 @@
 //! The numbers allowed (docs/01-scope.md, "What callers hand over"): refusal 1 where some number is NaN or infinite,
-//! else refusal 2 where one is beyond its range or the split is another number.
+//! else refusal 2 where one is beyond its range or the split or the allowance is another number.
 
-use super::{Points, Refusal, BOUND, FASTEST, SLOWEST};
+use super::{Points, Refusal, BOUND, FASTEST, FULL_ALLOWANCE, SLOWEST};
 
 #[derive(Clone, Copy)]
 pub struct Admission {
@@ -52,6 +52,12 @@ impl Admission {
 
     pub fn split(mut self, split: u32) -> Self {
         self.beyond |= split != 2 && split != 3;
+        self
+    }
+
+    /// The number of probes allowed.
+    pub fn allowance(mut self, allowance: u32, least: u32) -> Self {
+        self.beyond |= allowance < least || FULL_ALLOWANCE < allowance;
         self
     }
 

@@ -30,6 +30,9 @@ pub const FASTEST: f32 = 1_152_921_504_606_846_976.0;
 /// The least u_max, 2^-60.
 pub const SLOWEST: f32 = 1.0 / FASTEST;
 
+/// The most probes that a safe time may be allowed, and what it is allowed where its caller names no number.
+pub const FULL_ALLOWANCE: u32 = 4096;
+
 /// Why nothing is answered: a number of the rules' table.
 pub type Refusal = u32;
 
@@ -44,8 +47,10 @@ pub struct Rules {
     pub round_slack: f32,
     /// The slack of coordinates in the directional step, 6.2e-7.
     pub coordinate_slack: f32,
-    /// The probes allowed, 4,096.
-    pub probes: u32,
+    /// What a walk makes of the number of probes allowed: itself.
+    pub probes: fn(u32) -> u32,
+    /// The least number that may be allowed, 1.
+    pub least_allowance: u32,
     /// The Newton steps, 20.
     pub newton_steps: u32,
     /// The halving stops below this window, 0: only where the window repeats.
@@ -71,7 +76,8 @@ impl Rules {
         last_of_equals: false,
         round_slack: 1.0 / 4_194_304.0,
         coordinate_slack: 6.2e-7,
-        probes: 4096,
+        probes: |allowance| allowance,
+        least_allowance: 1,
         newton_steps: 20,
         least_window: 0.0,
         linear: Linear::TimesRange,

@@ -1,8 +1,8 @@
-//! The safe time (docs/01-scope.md, "The walk").
+//! The safe time (docs/01-scope.md, "The walk", "The allowance").
 
 use super::distance::{dot, minus};
 use super::pair::moved;
-use super::{admission::Admission, larger, plus_zero, Distance, Points, Refusal, Rules};
+use super::{admission::Admission, larger, plus_zero, Distance, Points, Refusal, Rules, FULL_ALLOWANCE};
 use crate::cover::{met, Branch};
 
 /// What travels together beside the pair.
@@ -40,13 +40,22 @@ struct Walk<'a> {
     park: f32,
     dip: f32,
     threshold: f32,
+    allowance: u32,
 }
 
 impl Rules {
-    /// The public `maximum_safe_time_accurate`.
-    pub fn safe_time(&self, x0: &Points, dx: &Points, split: u32, limits: Limits) -> Result<SafeTime, Refusal> {
+    /// The public `maximum_safe_time_accurate`, and where a number of probes is given `maximum_safe_time_allowing`.
+    pub fn safe_time(
+        &self,
+        x0: &Points,
+        dx: &Points,
+        split: u32,
+        limits: Limits,
+        given: Option<u32>,
+    ) -> Result<SafeTime, Refusal> {
         let Limits { offset, clearance, max_t, u_max } = limits;
-        let admission = Admission::new().points(x0).points(dx).split(split);
+        let allowance = given.unwrap_or(FULL_ALLOWANCE);
+        let admission = Admission::new().points(x0).points(dx).split(split).allowance(allowance, self.least_allowance);
         admission.length(offset).length(clearance).time(max_t).speed(u_max).done()?;
         let park = offset + clearance;
         let dip = offset + clearance * 0.5;
@@ -63,8 +72,21 @@ impl Rules {
             met(Branch::StartInBand);
             Err(3)
         } else {
-            Ok(Walk { rules: self, x0, dx, split, max_t, park, dip, threshold }.from(first, u_max))
+            given.map(branch_of).map(met);
+            Ok(Walk { rules: self, x0, dx, split, max_t, park, dip, threshold, allowance }.from(first, u_max))
         }
+    }
+}
+
+/// The branch of a walk with a given number of probes.
+fn branch_of(given: u32) -> Branch {
+    match given {
+        1 => Branch::AllowanceOne,
+        2 => Branch::AllowanceTwo,
+        3 => Branch::AllowanceThree,
+        4095 => Branch::AllowanceOneLess,
+        FULL_ALLOWANCE => Branch::AllowanceFull,
+        _ => Branch::AllowanceOther,
     }
 }
 
@@ -78,8 +100,9 @@ impl Walk<'_> {
             if next > self.max_t {
                 return self.clear(probes);
             }
-            if probes == self.rules.probes {
+            if probes == (self.rules.probes)(self.allowance) {
                 met(if moving { Branch::BudgetMoved } else { Branch::BudgetStuck });
+                self.last_allowed(probes, Branch::AllowanceBudget);
                 return SafeTime { kind: Kind::Budget, time: toi, probes, halvings: 0 };
             }
             probes += 1;
@@ -97,12 +120,20 @@ impl Walk<'_> {
         }
     }
 
+    /// Notes the branch of an end after the last probe allowed, where fewer than 4,096 are.
+    fn last_allowed(&self, probes: u32, branch: Branch) {
+        if probes == self.allowance && self.allowance < FULL_ALLOWANCE {
+            met(branch);
+        }
+    }
+
     fn clear(&self, probes: u32) -> SafeTime {
         met(match probes {
             0 => Branch::ClearAtOnce,
-            4096 => Branch::ClearLast,
+            FULL_ALLOWANCE => Branch::ClearLast,
             _ => Branch::ClearLater,
         });
+        self.last_allowed(probes, Branch::AllowanceClear);
         if self.max_t == 0.0 && self.max_t.is_sign_negative() {
             met(Branch::MinusZeroTime);
         }
@@ -190,9 +221,10 @@ impl Walk<'_> {
         }
         met(match probes {
             1 => Branch::ContactFirst,
-            4096 => Branch::ContactLast,
+            FULL_ALLOWANCE => Branch::ContactLast,
             _ => Branch::ContactLater,
         });
+        self.last_allowed(probes, Branch::AllowanceContact);
         if lower == 0.0 {
             met(Branch::ContactAtZero);
         }

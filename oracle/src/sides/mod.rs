@@ -7,6 +7,7 @@ pub use self::model::by_model;
 pub use self::original::{by_original, guard, Outcome};
 
 use crate::calls::Call;
+use crate::functions::Function;
 use crate::model::Limits;
 
 /// What stands for the kinds of a safe time in the stream.
@@ -16,4 +17,10 @@ pub const REFUSED: u32 = 4;
 pub fn limits_of(call: &Call) -> Limits {
     let of = |name| call.number(name);
     Limits { offset: of("offset"), clearance: of("clearance"), max_t: of("max_t"), u_max: of("u_max") }
+}
+
+/// How many probes a safe time is allowed, where the call says it.
+pub fn allowance_of(call: &Call) -> Option<u32> {
+    let says = call.function == Function::MaximumSafeTimeAllowing;
+    says.then(|| call.word("allowance"))
 }

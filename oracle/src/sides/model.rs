@@ -1,6 +1,6 @@
 //! The model's answer to a call.
 
-use super::{limits_of, REFUSED};
+use super::{allowance_of, limits_of, REFUSED};
 use crate::calls::Call;
 use crate::functions::Function;
 use crate::model::{Points, Refusal, Roots, Rules};
@@ -53,8 +53,9 @@ pub fn by_model(rules: &Rules, call: &Call) -> Words {
             with_roots(rules.cubic_roots(c, number("t"), number("epsilon")))
         }
         Function::CoplanarTimeMat3x4 => with_roots(rules.coplanar(&points("x0"), &points("dx"))),
-        Function::MaximumSafeTimeAccurate => {
-            match rules.safe_time(&points("x0"), &points("dx"), call.word("split"), limits_of(call)) {
+        Function::MaximumSafeTimeAccurate | Function::MaximumSafeTimeAllowing => {
+            let (x0, dx, split) = (points("x0"), points("dx"), call.word("split"));
+            match rules.safe_time(&x0, &dx, split, limits_of(call), allowance_of(call)) {
                 Ok(safe) => answered.word(safe.kind as u32).numbers(&[safe.time]).word(safe.probes).word(safe.halvings),
                 Err(refusal) => Words::new().word(refusal).word(REFUSED).word(0).word(0).word(0),
             }

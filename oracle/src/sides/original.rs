@@ -8,7 +8,7 @@ use original::ccd3::{self, SquareDistance};
 use super::limits_of;
 use crate::calls::Call;
 use crate::functions::Function;
-use crate::model::{Kind, Limits, Points, Rules};
+use crate::model::{Kind, Limits, Points, Rules, FULL_ALLOWANCE};
 use crate::words::Words;
 
 /// What the original did.
@@ -110,20 +110,36 @@ fn original_words(call: &Call) -> Words {
             with_roots(&polynomial::cubic_roots_in_range_zero_to_t(c0, c1, c2, c3, t, number("epsilon")))
         }
         Function::CoplanarTimeMat3x4 => with_roots(&ccd3::coplanar_time_mat3x4(&points("x0"), &points("dx"))),
-        Function::MaximumSafeTimeAccurate => original_safe_time(call),
+        Function::MaximumSafeTimeAccurate => as_it_stands(call),
+        Function::MaximumSafeTimeAllowing => allowing(call, call.word("allowance")),
     }
 }
 
+/// The safe time as it stands, with its constant of 4,096 probes.
+fn as_it_stands(call: &Call) -> Words {
+    counted(call, |rule, x0, dx, Limits { offset, clearance, max_t, u_max }| match rule.split {
+        2 => ccd3::maximum_safe_time_accurate::<_, 2>(x0, dx, u_max, rule, offset, clearance, max_t),
+        _ => ccd3::maximum_safe_time_accurate::<_, 3>(x0, dx, u_max, rule, offset, clearance, max_t),
+    })
+}
+
+/// The safe time with its constant set. Set to 4,096 it has to answer what it answers as it stands.
+fn allowing(call: &Call, allowance: u32) -> Words {
+    let n = allowance as usize;
+    let words = counted(call, |rule, x0, dx, Limits { offset, clearance, max_t, u_max }| match rule.split {
+        2 => ccd3::allowing::maximum_safe_time_accurate::<_, 2>(x0, dx, u_max, rule, offset, clearance, max_t, n),
+        _ => ccd3::allowing::maximum_safe_time_accurate::<_, 3>(x0, dx, u_max, rule, offset, clearance, max_t, n),
+    });
+    if allowance == FULL_ALLOWANCE {
+        assert_eq!(words.as_slice(), as_it_stands(call).as_slice(), "4,096 probes allowed");
+    }
+    words
+}
+
 /// The time with the counts. Of the kinds the original tells only a contact, by its halvings.
-fn original_safe_time(call: &Call) -> Words {
-    let (x0, dx) = (call.points("x0"), call.points("dx"));
-    let limits = limits_of(call);
+fn counted(call: &Call, time: impl Fn(&Rule, &Points, &Points, Limits) -> f32) -> Words {
     let rule = Rule { split: call.word("split"), with_direction: Cell::new(0), without: Cell::new(0) };
-    let Limits { offset, clearance, max_t, u_max } = limits;
-    let time = match rule.split {
-        2 => ccd3::maximum_safe_time_accurate::<_, 2>(&x0, &dx, u_max, &rule, offset, clearance, max_t),
-        _ => ccd3::maximum_safe_time_accurate::<_, 3>(&x0, &dx, u_max, &rule, offset, clearance, max_t),
-    };
+    let time = time(&rule, &call.points("x0"), &call.points("dx"), limits_of(call));
     let (probes, halvings) = (rule.with_direction.get() - 1, rule.without.get().saturating_sub(2));
     let kind = if halvings > 0 { Kind::Contact } else { Kind::Clear };
     Words::new().word(0).word(kind as u32).numbers(&[time]).word(probes).word(halvings)

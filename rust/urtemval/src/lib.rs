@@ -43,6 +43,8 @@
 //!   a clear move, or of a move that another pair's time cuts, a pair may be anywhere from dip up, and the next call
 //!   may find it too close ([`Refusal::TooClose`]) or touching.
 //! - **Centring and scaling** ([`scale_pair`]) change the limits of a pair, too.
+//! - **A preview** tries fewer times ([`Limits::allowing`], [`safe_times_allowing`]). Any answer but
+//!   [`Answer::Budget`] is then the last word; the time of a budget does not fall when it is asked again with more.
 //!
 //! `include/urtemval.h` has the steps for a pair (centre, scale, ask) and what to do after each answer and refusal;
 //! docs/GUARANTEES.md says in full what is proved, what is measured, and what is not promised.
@@ -61,6 +63,7 @@
 //! | `max_t` | 0 to 1 |
 //! | `t` of a cubic | above 0, at most 1 |
 //! | `u_max` | 2^-60 to 2^60 |
+//! | allowance | 1 to 4,096 |
 //!
 //! Any other number is refused, by [`Refusal::NotFinite`] before [`Refusal::OutOfRange`].
 //!
@@ -81,7 +84,7 @@ mod many;
 pub mod raw;
 mod refusal;
 
-pub use many::{safe_times, Query};
+pub use many::{safe_times, safe_times_allowing, Query};
 pub use refusal::Refusal;
 
 use refusal::{unknown, unless_refused};
@@ -92,6 +95,9 @@ pub type Points = [[f32; 3]; 4];
 
 /// The least `u_max` that is allowed, 2^-60: for a pair at rest, or nearly so.
 pub const LEAST_U_MAX: f32 = 1.0 / (1u64 << 60) as f32;
+
+/// How many times a safe time may try: at most so many, and so many where its caller names no other number.
+pub const FULL_ALLOWANCE: u32 = 4096;
 
 /// How four points make a pair: where its second side starts.
 #[derive(Clone, Copy, Debug, PartialEq, Eq, Hash)]
@@ -119,6 +125,57 @@ pub struct Limits {
     pub u_max: f32,
 }
 
+impl Limits {
+    /// These limits with the number of times that may be tried, 1 to [`FULL_ALLOWANCE`]: for a preview, which is to cost
+    /// little. With [`FULL_ALLOWANCE`] it is the call with the limits alone.
+    ///
+    /// Any answer but [`Answer::Budget`] is the answer of every larger allowance too, counts included. A budget is one
+    /// with every smaller allowance too, at a time that is not after it: as the allowance grows, the time of a budget
+    /// never falls.
+    ///
+    /// ```
+    /// use urtemval::{safe_time, Answer, Limits, Refusal, Split};
+    ///
+    /// // two strips that slide along each other, so near that each step is 2^-21
+    /// let height = 3.0 / 4_194_304.0;
+    /// let x0 = [[0.0; 3], [1.0, 0.0, 0.0], [0.0, 0.0, height], [1.0, 0.0, height]];
+    /// let dx = [[0.0; 3], [0.0; 3], [1.0, 0.0, 0.0], [1.0, 0.0, 0.0]];
+    /// let limits = Limits { offset: 0.0, clearance: 1.0 / 2_097_152.0, max_t: 1.0, u_max: 1.0 };
+    ///
+    /// let preview = safe_time(&x0, &dx, Split::EdgeEdge, limits.allowing(16))?;
+    /// assert_eq!((preview.answer, preview.probes), (Answer::Budget(16.0 / 2_097_152.0), 16));
+    /// let whole = safe_time(&x0, &dx, Split::EdgeEdge, limits)?;
+    /// assert_eq!((whole.answer, whole.probes), (Answer::Budget(4096.0 / 2_097_152.0), 4096));
+    /// let none = safe_time(&x0, &dx, Split::EdgeEdge, limits.allowing(0));
+    /// assert_eq!(none, Err(Refusal::OutOfRange));
+    /// # Ok::<(), Refusal>(())
+    /// ```
+    #[inline]
+    pub const fn allowing(self, allowance: u32) -> Allowing {
+        Allowing {
+            limits: self,
+            allowance,
+        }
+    }
+}
+
+/// [`Limits`] with the number of times that may be tried: [`Limits::allowing`] makes it, and [`safe_time`] takes it.
+#[derive(Clone, Copy, Debug, PartialEq)]
+pub struct Allowing {
+    /// The limits.
+    pub limits: Limits,
+    /// How many times may be tried: 1 to [`FULL_ALLOWANCE`].
+    pub allowance: u32,
+}
+
+/// [`FULL_ALLOWANCE`] is what limits alone allow.
+impl From<Limits> for Allowing {
+    #[inline]
+    fn from(limits: Limits) -> Allowing {
+        limits.allowing(FULL_ALLOWANCE)
+    }
+}
+
 /// How a safe time ends, with its time. Below, d(t) is the computed squared distance of the points `x0 + t dx`, and
 /// park is offset + clearance. Nothing is said of d at a time that was not tried.
 #[derive(Clone, Copy, Debug, PartialEq)]
@@ -131,7 +188,7 @@ pub enum Answer {
     /// d exceeds park² at the start and at every time that was tried. The time is the time limit, which need not be one
     /// of them: the pair may end nearer than park.
     Clear(f32),
-    /// d exceeds park² at this time, and 4,096 times were tried.
+    /// d exceeds park² at this time, and as many times were tried as are allowed: 4,096, or those of an [`Allowing`].
     Budget(f32),
 }
 
@@ -151,7 +208,7 @@ impl Answer {
 pub struct SafeTime {
     /// How it ends, with the time.
     pub answer: Answer,
-    /// How many times were tried: at most 4,096.
+    /// How many times were tried: at most as many as are allowed, 4,096 or those of an [`Allowing`].
     pub probes: u32,
     /// How often the last span was halved: at most 256.
     pub halvings: u32,
@@ -199,7 +256,8 @@ impl PartialEq for Roots {
 }
 
 /// How far along the move `dx` the pair at `x0` may go: [`Answer`] says what holds at the time. The crate's page says
-/// what a solver has to mind.
+/// what a solver has to mind. It takes [`Limits`], or with another number of times that may be tried
+/// [`Limits::allowing`].
 ///
 /// # Errors
 ///
@@ -225,10 +283,12 @@ pub fn safe_time(
     x0: &Points,
     dx: &Points,
     split: Split,
-    limits: Limits,
+    limits: impl Into<Allowing>,
 ) -> Result<SafeTime, Refusal> {
+    let Allowing { limits, allowance } = limits.into();
     // SAFETY: references are neither null nor dangling, and `x0` and `dx` are only read.
-    let told = unsafe { raw::urtemval_safe_time(x0, dx, split as usize, limits) };
+    let told =
+        unsafe { raw::urtemval_safe_time_allowing(x0, dx, split as usize, limits, allowance) };
     unless_refused(told.refusal, ())?;
     let answer = match told.kind {
         raw::TOUCHING => Answer::Touching,

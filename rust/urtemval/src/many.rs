@@ -1,6 +1,6 @@
 //! Safe times of many pairs, by as many threads as the machine runs at once.
 
-use crate::{safe_time, Limits, Points, Refusal, SafeTime, Split};
+use crate::{safe_time, Limits, Points, Refusal, SafeTime, Split, FULL_ALLOWANCE};
 use std::num::NonZeroUsize;
 use std::sync::Mutex;
 use std::thread;
@@ -22,7 +22,14 @@ impl Query {
     /// Its [`safe_time`].
     #[inline]
     pub fn safe_time(&self) -> Result<SafeTime, Refusal> {
-        safe_time(&self.x0, &self.dx, self.split, self.limits)
+        self.safe_time_allowing(FULL_ALLOWANCE)
+    }
+
+    /// Its [`safe_time`] with so many times that may be tried ([`Limits::allowing`]).
+    #[inline]
+    pub fn safe_time_allowing(&self, allowance: u32) -> Result<SafeTime, Refusal> {
+        let limits = self.limits.allowing(allowance);
+        safe_time(&self.x0, &self.dx, self.split, limits)
     }
 }
 
@@ -53,6 +60,13 @@ const SHARE: usize = 128;
 /// assert_eq!(answers[1], Err(Refusal::NotFinite));
 /// ```
 pub fn safe_times(queries: &[Query]) -> Vec<Result<SafeTime, Refusal>> {
+    safe_times_allowing(queries, FULL_ALLOWANCE)
+}
+
+/// [`safe_times`] with so many times that each pair may try: what [`Query::safe_time_allowing`] answers for each. A
+/// preview of a move costs little with a small allowance, and the smallest of its times is not above that of the whole
+/// call: a pair's answer that is no budget stays, and the time of a budget never falls ([`Limits::allowing`]).
+pub fn safe_times_allowing(queries: &[Query], allowance: u32) -> Vec<Result<SafeTime, Refusal>> {
     // every place is written below
     let mut answers = vec![Err(Refusal::NotFinite); queries.len()];
     let shares = Mutex::new(queries.chunks(SHARE).zip(answers.chunks_mut(SHARE)));
@@ -62,7 +76,7 @@ pub fn safe_times(queries: &[Query]) -> Vec<Result<SafeTime, Refusal>> {
             .expect("no thread panics while it takes a share")
             .next();
         match share {
-            Some((asked, answered)) => answer_all(asked, answered),
+            Some((asked, answered)) => answer_all(asked, allowance, answered),
             None => break,
         }
     };
@@ -80,9 +94,9 @@ pub fn safe_times(queries: &[Query]) -> Vec<Result<SafeTime, Refusal>> {
 }
 
 /// The answers of one share, each into its place.
-fn answer_all(asked: &[Query], answered: &mut [Result<SafeTime, Refusal>]) {
+fn answer_all(asked: &[Query], allowance: u32, answered: &mut [Result<SafeTime, Refusal>]) {
     for (query, answer) in asked.iter().zip(answered) {
-        *answer = query.safe_time();
+        *answer = query.safe_time_allowing(allowance);
     }
 }
 

@@ -71,8 +71,16 @@ pub const BUDGET: u32 = 3;
 pub const REFUSED: u32 = 4;
 
 extern "C" {
-    /// [`safe_time`](crate::safe_time).
+    /// [`safe_time`](crate::safe_time) with [`Limits`].
     pub fn urtemval_safe_time(x0: &Points, dx: &Points, split: usize, limits: Limits) -> SafeTime;
+    /// [`safe_time`](crate::safe_time) with [`Allowing`](crate::Allowing).
+    pub fn urtemval_safe_time_allowing(
+        x0: &Points,
+        dx: &Points,
+        split: usize,
+        limits: Limits,
+        allowance: u32,
+    ) -> SafeTime;
     /// [`squared_distance`](crate::squared_distance).
     pub fn urtemval_squared_distance(x: &Points, split: usize) -> Distance;
     /// [`max_relative_norm`](crate::max_relative_norm).

@@ -2,7 +2,7 @@
 //! has them. `tests/link` holds the list to the one that the header's C gives and to the one of the Rattle sources.
 
 use std::mem::{size_of, size_of_val};
-use urtemval::{raw, Limits, Points, Refusal, Split};
+use urtemval::{raw, Limits, Points, Refusal, Split, FULL_ALLOWANCE};
 
 /// The size of a record, and of each field its offset and size.
 macro_rules! record {
@@ -37,6 +37,7 @@ fn main() {
     println!("kind CLEAR {}", raw::CLEAR);
     println!("kind BUDGET {}", raw::BUDGET);
     println!("kind REFUSED {}", raw::REFUSED);
+    println!("allowance FULL_ALLOWANCE {FULL_ALLOWANCE}");
     println!("split EDGE_EDGE {}", Split::EdgeEdge as usize);
     println!("split FACE_VERTEX {}", Split::FaceVertex as usize);
     for refusal in Refusal::ALL {

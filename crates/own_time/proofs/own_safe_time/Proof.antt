@@ -9,6 +9,7 @@ use lib.Ieee.{Float, le}
 use lib.Ieee.Fits.{and-l}
 use Rattle.number.specs.Number.{leastSpeed}
 use Rattle.geometry.proofs.Handed.{PointsFit, points-fit}
+use Rattle.admission.specs.Admission.{fullAllowance}
 use Rattle.admission.proofs.Admitted.{walk-admits}
 use Rattle.pair.specs.Points.{normOf}
 use Rattle.pair.proofs.NormBounds.{norm-upward}
@@ -24,7 +25,8 @@ module _ (x₀ dx : List (List Float)) (split : ℕ) (offset clearance maxT : Fl
       → OwnSpeed x₀ dx split offset clearance maxT s
   own-speed s p z =
       let l = ownLimits x₀ dx split offset clearance maxT in
-      let w = walk-admits x₀ dx split l (number-none x₀ dx split l (sym (p .number) ∙ z) .0) in
+      let n = number-none x₀ dx split l fullAllowance (sym (p .number) ∙ z) in
+      let w = walk-admits x₀ dx split l fullAllowance (n .0) .0 in
       let up = norm-upward dx split (w .displacements) f in
       up .not-below (subst T (up .told) (and-l (le leastSpeed (normOf dx split)) _ (w .u-max)))
 
