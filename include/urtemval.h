@@ -227,8 +227,8 @@ UrtemvalSafeTime urtemval_safe_time(const UrtemvalPoints *x0, const UrtemvalPoin
  * The same with another number of times that may be tried, 1 to 4096: for a preview, which is to cost little. With 4096
  * it is urtemval_safe_time, bit for bit. The kinds are as there, but for
  * - budget, t: d(t) exceeds park^2, and just `allowance` times were tried.
- * Any answer but a budget is the answer of every larger allowance too, counts included. A budget is one with every
- * smaller allowance too, at a time that is not after t: as the allowance grows, the time of a budget never falls.
+ * Any answer but a budget is the answer of every larger allowance too, counts included, and a budget is one with every
+ * smaller allowance too. As the allowance grows the time never falls: that of a preview is not after the whole call's.
  *
  * Refusals: as there, and 2 also where the allowance is 0 or above 4096.
  */

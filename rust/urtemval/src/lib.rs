@@ -44,7 +44,7 @@
 //!   may find it too close ([`Refusal::TooClose`]) or touching.
 //! - **Centring and scaling** ([`scale_pair`]) change the limits of a pair, too.
 //! - **A preview** tries fewer times ([`Limits::allowing`], [`safe_times_allowing`]). Any answer but
-//!   [`Answer::Budget`] is then the last word; the time of a budget does not fall when it is asked again with more.
+//!   [`Answer::Budget`] is then the last word, and no time is after that of the whole call.
 //!
 //! `include/urtemval.h` has the steps for a pair (centre, scale, ask) and what to do after each answer and refusal;
 //! docs/GUARANTEES.md says in full what is proved, what is measured, and what is not promised.
@@ -129,9 +129,9 @@ impl Limits {
     /// These limits with the number of times that may be tried, 1 to [`FULL_ALLOWANCE`]: for a preview, which is to cost
     /// little. With [`FULL_ALLOWANCE`] it is the call with the limits alone.
     ///
-    /// Any answer but [`Answer::Budget`] is the answer of every larger allowance too, counts included. A budget is one
-    /// with every smaller allowance too, at a time that is not after it: as the allowance grows, the time of a budget
-    /// never falls.
+    /// Any answer but [`Answer::Budget`] is the answer of every larger allowance too, counts included, and a budget is one
+    /// with every smaller allowance too. As the allowance grows the time never falls: that of a preview is not after the
+    /// whole call's.
     ///
     /// ```
     /// use urtemval::{safe_time, Answer, Limits, Refusal, Split};

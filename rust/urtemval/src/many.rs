@@ -64,8 +64,8 @@ pub fn safe_times(queries: &[Query]) -> Vec<Result<SafeTime, Refusal>> {
 }
 
 /// [`safe_times`] with so many times that each pair may try: what [`Query::safe_time_allowing`] answers for each. A
-/// preview of a move costs little with a small allowance, and the smallest of its times is not above that of the whole
-/// call: a pair's answer that is no budget stays, and the time of a budget never falls ([`Limits::allowing`]).
+/// preview of a move costs little with a small allowance, and no time of it is after that of the whole call
+/// ([`Limits::allowing`]).
 pub fn safe_times_allowing(queries: &[Query], allowance: u32) -> Vec<Result<SafeTime, Refusal>> {
     // every place is written below
     let mut answers = vec![Err(Refusal::NotFinite); queries.len()];

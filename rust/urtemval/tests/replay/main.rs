@@ -1,9 +1,11 @@
 //! Replays the calls of the frozen list (docs/TESTING.md, "The stream") through the safe functions, and holds each
 //! answer to the one in the list, word by word. Fails where one differs, and where a function is not called at all.
-//! Safe times are asked once more, all at once, by `safe_times`.
+//! Safe times are asked once more, all at once, by `safe_times`, and with growing allowances.
 //!
-//! A split that is neither 2 nor 3 cannot be said in this crate's types: such a call goes through `raw`.
+//! A split that is neither 2 nor 3 cannot be said in this crate's types: such a call goes through `raw`, as every safe
+//! time does beside the safe function.
 
+mod growing;
 mod stream;
 mod told;
 
@@ -72,15 +74,27 @@ fn scale_pair(call: &Call) -> Vec<u32> {
 }
 
 fn safe_time(call: &Call) -> Vec<u32> {
-    match split(call) {
-        Some(split) => told::safe_time(query(call, split).safe_time()),
-        None => {
-            let (x0, dx, split) = (call.points("x0"), call.points("dx"), call.word("split"));
-            // SAFETY: references and numbers.
-            let r = unsafe { raw::urtemval_safe_time(&x0, &dx, split as usize, limits(call)) };
-            vec![r.refusal, r.kind, r.time.to_bits(), r.probes, r.halvings]
-        }
+    let (x0, dx, width) = (call.points("x0"), call.points("dx"), call.word("split"));
+    // SAFETY: references and numbers.
+    let raw = unsafe { raw::urtemval_safe_time(&x0, &dx, width as usize, limits(call)) };
+    let words = told::raw_safe_time(raw);
+    if let Some(split) = split(call) {
+        assert_eq!(told::safe_time(query(call, split).safe_time()), words);
     }
+    words
+}
+
+fn safe_time_allowing(call: &Call) -> Vec<u32> {
+    let (x0, dx, width) = (call.points("x0"), call.points("dx"), call.word("split"));
+    let (limits, n) = (limits(call), call.word("allowance"));
+    // SAFETY: references and numbers.
+    let raw = unsafe { raw::urtemval_safe_time_allowing(&x0, &dx, width as usize, limits, n) };
+    let words = told::raw_safe_time(raw);
+    if let Some(split) = split(call) {
+        let safe = urtemval::safe_time(&x0, &dx, split, limits.allowing(n));
+        assert_eq!(told::safe_time(safe), words);
+    }
+    words
 }
 
 fn answer(face: &str, call: &Call) -> Vec<u32> {
@@ -100,20 +114,23 @@ fn answer(face: &str, call: &Call) -> Vec<u32> {
             told::roots(urtemval::coplanar_times(&x0, &dx))
         }
         "safe_time" => safe_time(call),
+        "safe_time_allowing" => safe_time_allowing(call),
         _ => panic!("{face} is exported, and is not called here"),
     }
 }
 
-/// Safe times once more, all at once; says how many.
+/// Safe times once more, all at once, and with growing allowances; says how many.
 fn at_once(calls: &[Call]) -> usize {
     let safe_times = calls
         .iter()
         .filter(|call| call.function.face == Some("safe_time"));
     let asked = safe_times.filter_map(|call| Some((query(call, split(call)?), call.expected)));
     let (queries, expected): (Vec<Query>, Vec<&[u32]>) = asked.unzip();
-    for (got, expected) in urtemval::safe_times(&queries).into_iter().zip(expected) {
+    let answers = urtemval::safe_times(&queries);
+    for (&got, expected) in answers.iter().zip(expected) {
         assert_eq!(told::safe_time(got), expected, "safe_times");
     }
+    growing::hold(&queries, &answers);
     assert_eq!(urtemval::safe_times(&[]), []);
     queries.len()
 }
@@ -139,7 +156,7 @@ fn main() {
             format!("{face} {count}")
         });
     println!(
-        "{}; {} calls, and {} safe times at once, all answered as in the frozen list",
+        "{}; {} calls, and {} safe times at once and by allowances, all answered as in the frozen list",
         told.collect::<Vec<_>>().join(", "),
         counts.values().sum::<usize>(),
         at_once(&calls)

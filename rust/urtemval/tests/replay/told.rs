@@ -41,6 +41,12 @@ pub fn distance(answer: Result<Distance, Refusal>) -> Vec<u32> {
     }
 }
 
+/// A safe time as the archive tells it.
+pub fn raw_safe_time(told: raw::SafeTime) -> Vec<u32> {
+    let time = told.time.to_bits();
+    vec![told.refusal, told.kind, time, told.probes, told.halvings]
+}
+
 pub fn safe_time(answer: Result<SafeTime, Refusal>) -> Vec<u32> {
     use urtemval::Answer::*;
     match answer {
