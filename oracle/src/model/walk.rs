@@ -55,8 +55,12 @@ impl Rules {
     ) -> Result<SafeTime, Refusal> {
         let Limits { offset, clearance, max_t, u_max } = limits;
         let allowance = given.unwrap_or(FULL_ALLOWANCE);
-        let admission = Admission::new().points(x0).points(dx).split(split).allowance(allowance, self.least_allowance);
-        admission.length(offset).length(clearance).time(max_t).speed(u_max).done()?;
+        let numbers = Admission::new().points(x0).points(dx).length(offset).length(clearance).time(max_t).speed(u_max);
+        let allowed = Admission::new().allowance(allowance, self.least_allowance).done();
+        if allowed.is_err() && numbers.done() == Err(1) {
+            met(Branch::AllowanceAfterOne);
+        }
+        numbers.split(split).done().and(allowed)?;
         let park = offset + clearance;
         let dip = offset + clearance * 0.5;
         let threshold = park * park;
@@ -102,7 +106,13 @@ impl Walk<'_> {
             }
             if probes == (self.rules.probes)(self.allowance) {
                 met(if moving { Branch::BudgetMoved } else { Branch::BudgetStuck });
-                self.last_allowed(probes, Branch::AllowanceBudget);
+                self.last_allowed(
+                    probes,
+                    match self.allowance {
+                        4095 => Branch::AllowanceOneShort,
+                        _ => Branch::AllowanceBudget,
+                    },
+                );
                 return SafeTime { kind: Kind::Budget, time: toi, probes, halvings: 0 };
             }
             probes += 1;
