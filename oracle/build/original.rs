@@ -1,5 +1,5 @@
-//! Cuts the functions in scope out of the original's text, unedited, into files that `src/original.rs` includes; and the
-//! safe time once more, with the number of probes allowed in place of its constant. The original's folder is the
+//! Cuts the functions in scope out of the original's text, unedited, into files that `src/original.rs` includes; and
+//! the safe time once more, with the number of probes allowed in place of its constant. The original's folder is the
 //! environment variable URTEMVAL_RUST, or else where the project keeps it beside itself.
 
 use std::path::{Path, PathBuf};

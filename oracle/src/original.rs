@@ -1,5 +1,5 @@
-//! The original: functions of del-geo-core in scope, compiled from its own text as it stands (`build/original.rs` cuts them
-//! out; no line of them is in this project). What is written here is only what that text needs from elsewhere.
+//! The original: functions of del-geo-core in scope, compiled from its own text as it stands (`build/original.rs` cuts
+//! them out; no line of them is in this project). What is written here is only what that text needs from elsewhere.
 #![allow(dead_code, unused_imports, clippy::all)]
 
 /// The Debian package's num-traits can lack `Float::clamp`, which later versions have. Where the trait has it, that one

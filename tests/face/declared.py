@@ -2,8 +2,8 @@
 """declared.py rattle|c|rust|layout|texts|words: the exported functions and their records, one a line, in words that are
 the same for the three languages. `rattle` reads the sources of the archive, `c` the header, `rust` the crate's
 declarations; tests/link holds the three lists to each other. `layout` prints the sizes and offsets that follow from the
-Rattle records, the numbers of the kinds and the full allowance, as tests/face/layout.c and the Rust crate's test `layout` print them.
-`texts` prints README.md's table of refusals as these two print theirs, without those of scenes, which no exported
+Rattle records, the numbers of the kinds and the full allowance, as tests/face/layout.c and the Rust crate's test
+`layout` print them. `texts` prints README.md's table of refusals as these two print theirs, without those of scenes, which no exported
 function answers. `words` prints the words of each function's parameters and answer, as `tests/calls.py face` prints
 those of the stream.
 """

@@ -1,5 +1,6 @@
--- What a call's refusal number says: 0 puts every number in its range, the split at 2 or 3; 1 is met exactly where
--- some number is not finite; 2 exactly where all are and something lies beyond its range. Assumes nothing.
+-- What a call's refusal number says: 0 puts every number in its range, an allowance too, and the split at 2 or 3; 1 is
+-- met exactly where some number is not finite; 2 exactly where all are and something lies beyond its range. Assumes
+-- nothing.
 use Prim.Native.Nat.{ℕ, zero, suc, _≤_, _<_}
 use native.Mathlib.Omega.{arith}
 use mathlib.Core.Path.{_≡_, refl}
@@ -19,8 +20,8 @@ use Rattle.geometry.proofs.Bounds.{Each}
 use Rattle.geometry.specs.Geometry.{at, col}
 use Rattle.admission.specs.declared.Limits.{Limits}
 use Rattle.admission.specs.Admission.{ofThree, ofTwelve, finitePoints, boundedPoints, isSplit, finiteLimits}
-use Rattle.admission.specs.Admission.{rangedLimits, fullAllowance, isAllowance, walkRefusal}
-use Rattle.admission.specs.Admission.{pointsRefusal, splitRefusal, factorRefusal, motionRefusal, timeRefusal, ratioRefusal}
+use Rattle.admission.specs.Admission.{rangedLimits, fullAllowance, isAllowance, walkRefusal, pointsRefusal}
+use Rattle.admission.specs.Admission.{splitRefusal, factorRefusal, motionRefusal, timeRefusal, ratioRefusal}
 
 -- ---- the numbers of four points, by column and place
 module _ (test : Float → Bool) where
@@ -109,8 +110,10 @@ split-parts split h = go (eqb split 2) (eqb split 3) (eqb→eq split 2) (eqb→e
 
 -- ---- the allowance
 pub allowance-range : (n : ℕ) → T (isAllowance n) → (1 ≤ n) × (n ≤ fullAllowance)
-allowance-range n h =
-    (leb→le 1 n (and-l (leb 1 n) (leb n fullAllowance) h), leb→le n fullAllowance (and-r (leb 1 n) (leb n fullAllowance) h))
+allowance-range n h = (
+  leb→le 1 n (and-l (leb 1 n) (leb n fullAllowance) h),
+  leb→le n fullAllowance (and-r (leb 1 n) (leb n fullAllowance) h),
+)
 
 pub range-allowance : (n : ℕ) → 1 ≤ n → n ≤ fullAllowance → T (isAllowance n)
 range-allowance n a b = and-i (leb 1 n) (leb n fullAllowance) (le→leb 1 n a) (le→leb n fullAllowance b)

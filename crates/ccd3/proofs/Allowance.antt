@@ -1,5 +1,5 @@
--- More probes allowed: any answer but a budget stays as it is, and the time never falls (specs/Allowance.antt). First of
--- any walk, over any threshold; then of the safe time. Assumes nothing.
+-- More probes allowed: any answer but a budget stays as it is, and the time never falls (specs/Allowance.antt); first
+-- of any walk, over any threshold, then of the safe time. Assumes nothing.
 use mathlib.Core.Path.{_≡_, refl, sym, ap, _∙_, subst}
 use mathlib.Core.Bool.{Bool, true, false}
 use mathlib.Core.List.{List}
@@ -7,7 +7,7 @@ use Prim.Native.Nat.{ℕ, zero, suc, _≤_}
 use native.Mathlib.Nat.{le-trans}
 use native.Mathlib.Omega.{arith}
 use lib.Dec.{T, eqb, eqb→eq}
-use lib.Ieee.{Float, lt, le, ofBits}
+use lib.Ieee.{Float, lt, le}
 use lib.Ieee.Fits.{eq→eqb}
 use Rattle.number.specs.Number.{zero32}
 use Rattle.number.proofs.Comparing.{le-self}
@@ -19,7 +19,8 @@ use Rattle.ccd3.specs.SafeTime.{numbersOf, Visit, next, Walked, visit, a
 use Rattle.ccd3.specs.SafeTime.{start, threshold, firstSquared, touches, safeRefusal, safeWalk, safeTimeOf}
 use Rattle.ccd3.specs.Allowance.{fiveOf, GrowsFrom}
 use Rattle.ccd3.proofs.WalkLaws.{walk-clears, walk-spends, walk-meets, walk-steps}
-use Rattle.ccd3.proofs.Standing.{Ground, Standing, Forward, start-stands, stands-on}
+use Rattle.ccd3.proofs.Bracket.{timely-refl}
+use Rattle.ccd3.proofs.Standing.{zero-timely, Ground, Standing, Forward, start-stands, stands-on}
 use Rattle.ccd3.proofs.Kept.{walk-keeps}
 use Rattle.ccd3.proofs.Threshold.{start-far, forward}
 use Rattle.ccd3.proofs.StartLaws.{number-alike, walked, safe-refused, safe-touches, safe-walks}
@@ -132,8 +133,7 @@ module _ (x₀ dx : List (List Float)) (split : ℕ) (threshold : Float) (l : Li
 
 -- ---- the safe time
 zero-self : T (le zero32 zero32)
-unfolding le ofBits
-zero-self = tt
+zero-self = timely-refl zero32 zero-timely
 
 module _ (x₀ dx : List (List Float)) (split : ℕ) (l : Limits) where
   abbrev S : ℕ → Walked

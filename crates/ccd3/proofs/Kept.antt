@@ -1,6 +1,6 @@
 -- Every walk from a place to stand keeps the promises (specs/SafeTime.antt): the counts, the range of the time, and the
--- computed squared distance at the time, at its neighbour and at the probes; and its time is not before that place. Of any number of probes allowed, and any
--- threshold above which no step is below zero. Assumes nothing.
+-- computed squared distance at the time, at its neighbour and at the probes; and its time is not before that place. Of any
+-- number of probes allowed, and any threshold above which no step is below zero. Assumes nothing.
 use mathlib.Core.Path.{_≡_, refl, sym, ap, _∙_, subst}
 use mathlib.Core.Bool.{Bool, true, false, cond}
 use mathlib.Core.List.{List, _∷_}
@@ -21,8 +21,8 @@ use Rattle.number.proofs.Units.Compared.{Is, finite-is, eq-is, lt-says, says-lt
 use Rattle.admission.specs.declared.Limits.{Limits}
 use Rattle.ccd3.specs.declared.Answer.{Answer}
 use Rattle.ccd3.specs.declared.Answer.the-variants.{Touching, Contact, Clear, Budget, Refused}
-use Rattle.ccd3.specs.SafeTime.{numbersOf, Visit, next, Walked, visit, above, closing, walk, InTime, Every, Rising}
-use Rattle.ccd3.specs.SafeTime.{Stopped}
+use Rattle.ccd3.specs.SafeTime.{numbersOf, Visit, next, Walked, visit, above, closing, walk}
+use Rattle.ccd3.specs.SafeTime.{InTime, Every, Rising, Stopped}
 use Rattle.ccd3.proofs.WalkLaws.{walk-clears, walk-spends, walk-meets, walk-steps}
 use Rattle.ccd3.proofs.Bracket.{Timely, timely-refl, Bracket, bracket-ends}
 use Rattle.ccd3.proofs.Growth.{above-plus}

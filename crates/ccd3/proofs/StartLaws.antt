@@ -44,7 +44,8 @@ module _ (x₀ dx : List (List Float)) (split : ℕ) (l : Limits) where
             → (walkRefusal x₀ dx split l allowed ≡ 0) × (between x₀ dx split l ≡ false)
         go zero false h k = (h, k)
         go zero true h k =
-            let z : _≡_ {A = ℕ} 0 3 = sym e ∙ number-admitted h ∙ ap (λ (b : Bool). cond b 3 0) k in absurd (omega arith)
+            let z : _≡_ {A = ℕ} 0 3 = sym e ∙ number-admitted h ∙ ap (λ (b : Bool). cond b 3 0) k in
+            absurd (omega arith)
         go (suc n) b h k =
             let z : 0 ≡ suc n = sym e ∙ number-admission (suc n) h (λ m. omega arith) in absurd (omega arith)
 

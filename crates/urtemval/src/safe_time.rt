@@ -15,7 +15,8 @@ pub extern "C" fn urtemval_safe_time(
     split: usize,
     limits: Limits,
 ) -> SafeTime
-    ensures answer { λ r. ⌜ r ≡ Def.safeTime (safeTimeOf (now (x0 .entry)) (now (dx .entry)) split limits fullAllowance) ⌝ }
+    ensures answer { λ r. ⌜ r ≡ Def.safeTime
+        (safeTimeOf (now (x0 .entry)) (now (dx .entry)) split limits fullAllowance) ⌝ }
     ensures promised { λ r. ⌜ Promised (now (x0 .entry)) (now (dx .entry)) split limits fullAllowance
         (r .refusal) (r .kind) (r .time) (r .probes) (r .halvings) ⌝ }
 {
@@ -32,7 +33,8 @@ pub extern "C" fn urtemval_safe_time_allowing(
     limits: Limits,
     allowance: u32,
 ) -> SafeTime
-    ensures answer { λ r. ⌜ r ≡ Def.safeTime (safeTimeOf (now (x0 .entry)) (now (dx .entry)) split limits allowance) ⌝ }
+    ensures answer { λ r. ⌜ r ≡ Def.safeTime
+        (safeTimeOf (now (x0 .entry)) (now (dx .entry)) split limits allowance) ⌝ }
     ensures promised { λ r. ⌜ Promised (now (x0 .entry)) (now (dx .entry)) split limits allowance
         (r .refusal) (r .kind) (r .time) (r .probes) (r .halvings) ⌝ }
     ensures grows { λ r. ⌜ Grows (now (x0 .entry)) (now (dx .entry)) split limits allowance

@@ -76,7 +76,9 @@ impl Rules {
             met(Branch::StartInBand);
             Err(3)
         } else {
-            given.map(branch_of).map(met);
+            if let Some(given) = given {
+                met(branch_of(given));
+            }
             Ok(Walk { rules: self, x0, dx, split, max_t, park, dip, threshold, allowance }.from(first, u_max))
         }
     }
@@ -106,13 +108,8 @@ impl Walk<'_> {
             }
             if probes == (self.rules.probes)(self.allowance) {
                 met(if moving { Branch::BudgetMoved } else { Branch::BudgetStuck });
-                self.last_allowed(
-                    probes,
-                    match self.allowance {
-                        4095 => Branch::AllowanceOneShort,
-                        _ => Branch::AllowanceBudget,
-                    },
-                );
+                let short = if self.allowance == 4095 { Branch::AllowanceOneShort } else { Branch::AllowanceBudget };
+                self.last_allowed(probes, short);
                 return SafeTime { kind: Kind::Budget, time: toi, probes, halvings: 0 };
             }
             probes += 1;

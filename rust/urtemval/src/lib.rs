@@ -126,12 +126,12 @@ pub struct Limits {
 }
 
 impl Limits {
-    /// These limits with the number of times that may be tried, 1 to [`FULL_ALLOWANCE`]: for a preview, which is to cost
-    /// little. With [`FULL_ALLOWANCE`] it is the call with the limits alone.
+    /// These limits with the number of times that may be tried, 1 to [`FULL_ALLOWANCE`]: for a preview, which is to
+    /// cost little. With [`FULL_ALLOWANCE`] it is the call with the limits alone.
     ///
-    /// Any answer but [`Answer::Budget`] is the answer of every larger allowance too, counts included, and a budget is one
-    /// with every smaller allowance too. As the allowance grows the time never falls: that of a preview is not after the
-    /// whole call's.
+    /// Any answer but [`Answer::Budget`] is the answer of every larger allowance too, counts included, and a budget is
+    /// one with every smaller allowance too. As the allowance grows the time never falls: that of a preview is not
+    /// after the whole call's.
     ///
     /// ```
     /// use urtemval::{safe_time, Answer, Limits, Refusal, Split};

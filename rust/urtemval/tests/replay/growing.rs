@@ -1,5 +1,5 @@
-//! Safe times with growing allowances: any answer but a budget stays, a budget has tried as many times as are allowed, and
-//! the time never falls (docs/01-scope.md, "The allowance").
+//! Safe times with growing allowances: any answer but a budget stays, a budget has tried as many times as are allowed,
+//! and the time never falls (docs/01-scope.md, "The allowance").
 
 use urtemval::{safe_times_allowing, Answer, Query, Refusal, SafeTime};
 

@@ -66,7 +66,8 @@ unfolding safeTimeOf
 returns c =
     let a = c .before .before .args in
     clauses (a .x0) (a .dx) (a .split) (a .limits) (a .allowance) (fitting (c .before .before)) _
-    (ap told (c .before .safe-walk .ensures) ∙ told-all (safeWalk (a .x0) (a .dx) (a .split) (a .limits) (a .allowance)))
+    (ap told (c .before .safe-walk .ensures)
+    ∙ told-all (safeWalk (a .x0) (a .dx) (a .split) (a .limits) (a .allowance)))
 
 pub maximum-safe-time-allowing-spec : {M : Type 1} → statement M
 maximum-safe-time-allowing-spec = tie.close (tie.spec (search needs) returns)

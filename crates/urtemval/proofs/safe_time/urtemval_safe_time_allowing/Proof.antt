@@ -1,5 +1,5 @@
--- `urtemval::safe_time::urtemval_safe_time_allowing` meets its contract: the library's answer, its promises, and what it
--- tells of other allowances, told in numbers. Assumes nothing.
+-- `urtemval::safe_time::urtemval_safe_time_allowing` meets its contract: the library's answer, its promises, and what
+-- it tells of other allowances, told in numbers. Assumes nothing.
 use borrow.Author.Needs.{needs}
 use Rattle.urtemval.specs.Face.{safeTime}
 use Rattle.urtemval.proofs.safe_time.urtemval_safe_time_allowing.Statement.{statement}
