@@ -293,9 +293,9 @@ module _ (x₀ dx : List (List Float)) (split : ℕ) (l : Limits) (allowed : ℕ
     pub start-far : lt (threshold l) (firstSquared x₀ dx split l) ≡ true
     pub probes-far : Every (λ (u : Float). isFar u ≡ true) probed
 
-  -- the numbers of an answer; kinds are 0 touching, 1 contact, 2 clear, 3 budget, 4 refused. A refused call has no time and
-  -- zero counts. Touching: at the start it is at most the squared offset, or just the squared park distance. Budget: it
-  -- exceeds the threshold at the time, and every probe allowed was made.
+  -- the numbers of an answer; kinds are 0 touching, 1 contact, 2 clear, 3 budget, 4 refused. A refused call has no time
+  -- and zero counts; any other, an allowance in its range. Touching: at the start it is at most the squared offset, or
+  -- just the squared park distance. Budget: it exceeds the threshold at the time, and every probe allowed was made.
   pub record Promised (refusal kind : ℕ) (time : Float) (probes halvings : ℕ) : Type 0 where
     pub number : refusal ≡ safeRefusal x₀ dx split l allowed
     pub probes-counted : probes ≡ length probed
