@@ -3,7 +3,6 @@
 use mathlib.Core.Path.{_≡_, refl, sym, subst}
 use mathlib.Core.Bool.{Bool, true, false, cond}
 use Prim.Native.Nat.{ℕ, zero, suc, _+_}
-use native.Mathlib.Nat.{le-trans}
 use native.Mathlib.Omega.{arith}
 use mathlib.Core.Logic.{inl, inr}
 use lib.Dec.{T}
@@ -14,8 +13,9 @@ use Rattle.number.proofs.Halvings.{Ends, begin, ends}
 use Rattle.number.proofs.Halvings.Turn.{Inv, next, few}
 use Rattle.number.proofs.Plus.{mid-plus}
 use Rattle.number.proofs.Signs.{plus-up}
+use Rattle.number.proofs.Transitive.{le-le-trans}
 use Rattle.number.proofs.Units.{plus}
-use Rattle.number.proofs.Units.Compared.{Is, le-says, says-le}
+use Rattle.number.proofs.Units.Compared.{Is, says-le}
 use Rattle.number.proofs.Window.{Split, step-at}
 
 -- a time that a walk can stand at: a float of f32 from 0 up, with the sign plus, of so many units
@@ -24,12 +24,6 @@ pub record Timely (t : Float) : Type 0 where
   pub is : Is t units
   pub fit : T (fits binary32 t)
   pub sign : T (plus t)
-
-pub timely-le : (x y z : Float) → Timely x → Timely y → Timely z → T (le x y) → T (le y z) → T (le x z)
-timely-le x y z a b c p q =
-    says-le x z (a .units) (c .units) (a .is) (c .is)
-    (le-trans (le-says x y (a .units) (b .units) (a .is) (b .is) p)
-    (le-says y z (b .units) (c .units) (b .is) (c .is) q))
 
 pub timely-refl : (x : Float) → Timely x → T (le x x)
 timely-refl x a = says-le x x (a .units) (a .units) (a .is) (a .is) (omega arith)
@@ -55,12 +49,6 @@ module _ (p : Float → Bool) (n : ℕ) (lo hi : Float) (i : Inv p n lo hi) wher
 
   sign-middle : T (plus (midpoint lo hi))
   sign-middle = mid-plus lo hi (i .u) (i .v) (i .span .low .is) (i .span .high .is) (i .plus-hi)
-
-  low : Timely lo
-  low = record { units = i .u; is = i .span .low .is; fit = i .fit-lo; sign = i .plus-lo }
-
-  high : Timely hi
-  high = record { units = i .v; is = i .span .high .is; fit = i .fit-hi; sign = i .plus-hi }
 
   -- after one halving
   once : (r : Halved) → r .lower ≡ nextLower p lo hi → r .upper ≡ nextUpper p lo hi → Held lo hi r
@@ -116,8 +104,8 @@ held-from p (suc k) n lo hi e i = go (repeats p lo hi) refl (held-from p k (suc 
         record {
           lower = h .lower;
           upper = h .upper;
-          over = timely-le _ _ _ (low p n lo hi i) (o .lower) (h .lower) (o .over) (h .over);
-          under = timely-le _ _ _ (h .upper) (o .upper) (high p n lo hi i) (h .under) (o .under);
+          over = le-le-trans _ _ _ (o .over) (h .over);
+          under = le-le-trans _ _ _ (h .under) (o .under);
         }
 
 -- a bracket, and what its halving ends in

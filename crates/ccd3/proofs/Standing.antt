@@ -7,7 +7,7 @@ use mathlib.Core.Bool.{Bool, true, false, not, true≢false}
 use mathlib.Core.List.{List}
 use Prim.Native.Nat.{ℕ, _≤_}
 use native.Mathlib.Nat.{le-trans, eq-or-lt-of-le}
-use lib.Dec.{T, not-T}
+use lib.Dec.{T}
 use lib.Ieee.{Float, binary32, lt, le, fits, isNan, ofBits}
 use lib.Ieee.Bits.{ofBits-fits}
 use lib.Ieee.Fits.{and-l, and-r}
@@ -15,7 +15,7 @@ use Rattle.number.specs.Number.{zero32, one32, zeroToOne}
 use Rattle.number.proofs.Comparing.{not-lt-le}
 use Rattle.number.proofs.NoNan.{no-nan-le}
 use Rattle.number.proofs.Signs.{plus-up}
-use Rattle.number.proofs.Transitive.{le-lt-trans, lt-not-le}
+use Rattle.number.proofs.Transitive.{le-le-trans}
 use Rattle.number.proofs.Units.{one-is, Unit32, plus, of-float, of-range, same-float}
 use Rattle.number.proofs.Units.Compared.{L, Is, finite-is, le-says, says-le, says-lt}
 use Rattle.number.proofs.Ranges.{zero-to-one}
@@ -29,11 +29,6 @@ use Rattle.ccd3.proofs.Growth.{Sound, next-later, next-fits}
 
 number : {d : Float} → Sound d → T (not (isNan d))
 number {d} s = no-nan-le zero32 d (plus-up d (s .sign)) .1
-
-le-chain : (x y z : Float) → T (le x y) → T (le y z) → T (le x z)
-le-chain x y z a b =
-    not-lt-le z x (no-nan-le y z b .1) (no-nan-le x y a .0)
-    (not-T (lt z x) (λ (h : T (lt z x)). lt-not-le y x (le-lt-trans y z x b h) a))
 
 pub zero-timely : Timely zero32
 unfolding ofBits
@@ -74,7 +69,7 @@ module _ (x₀ dx : List (List Float)) (split : ℕ) (l : Limits) (g : Ground x�
 
   pub number-at : (t : Float) → T (le zero32 t) → T (le t (l .«max_t»)) → T (not (isNan (squaredAt x₀ dx split t)))
   unfolding squaredAt
-  number-at t a b = number (g .sound-at t a (le-chain t (l .«max_t») one32 b limit-to))
+  number-at t a b = number (g .sound-at t a (le-le-trans t (l .«max_t») one32 b limit-to))
 
   -- ---- over a threshold
   module _ (threshold : Float) where

@@ -7,7 +7,7 @@ use Prim.Native.Nat.{ℕ, _+_, _*_, _≤_, _<_}
 use native.Mathlib.Nat.{le-trans, le-of-eq, lt-of-le-of-lt, lt-of-lt-of-le, lt-irrefl, eq-zero-or-pos, zero-mul}
 use native.Mathlib.Nat.{mul-right-comm, mul-pos, mul-le-mul-right, mul-lt-mul-of-pos-right, lt-of-mul-lt-mul-right}
 use native.Mathlib.Omega.{arith}
-use lib.Dec.{T, eqb, ltb→lt, lt→ltb, eqb→eq}
+use lib.Dec.{T, eqb, ltb→lt, lt→ltb, eqb→eq, not-T}
 use lib.Ieee.{Float, nan, inf, fin, up, down, lt, le, below, level}
 use lib.Ieee.Fits.{down-pos, and-l, and-r}
 use Rattle.number.proofs.Signs.{le-of-tests}
@@ -146,10 +146,8 @@ lt-self (fin true m e) h = lt-irrefl (m * up e * down e) (ltb→lt (m * up e * d
 pub lt-not-le : (x y : Float) → T (lt x y) → T (le y x) → ⊥
 lt-not-le x y h l = lt-self y (le-lt-trans y x y l h)
 
+-- so what is not above is transitive, too
 pub le-le-trans : (x y z : Float) → T (le x y) → T (le y z) → T (le x z)
 le-le-trans x y z h l =
-    not-lt-le z x (no-nan-le y z l .1) (no-nan-le x y h .0) (go (lt z x) (λ k. lt-not-le y x (le-lt-trans y z x l k) h))
-  where
-    go : (b : Bool) → (T b → ⊥) → T (not b)
-    go true n = absurd (n tt)
-    go false n = tt
+    not-lt-le z x (no-nan-le y z l .1) (no-nan-le x y h .0)
+    (not-T (lt z x) (λ k. lt-not-le y x (le-lt-trans y z x l k) h))
