@@ -25,6 +25,7 @@ pub mod Finite
 pub mod Ranges
 pub mod Transitive
 pub mod NextUp
+pub mod NextDown
 pub mod Answers
 pub mod SquareRoot
 pub mod Corners

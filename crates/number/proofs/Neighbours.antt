@@ -5,7 +5,7 @@ use mathlib.Core.Logic.{inl, inr}
 use mathlib.Core.Bool.{true, false}
 use Prim.Native.Nat.{ℕ, suc, _+_, _-_, _*_, _/_, _^_, _≤_, _<_}
 use native.Mathlib.Nat.{le-of-eq, le-of-lt, lt-of-lt-of-le, lt-of-le-of-lt, lt-of-not-le, not-le-of-lt}
-use native.Mathlib.Nat.{eq-of-mul-eq-mul-right, eq-or-lt-of-le}
+use native.Mathlib.Nat.{le-refl, eq-of-mul-eq-mul-right, eq-zero-or-pos, eq-or-lt-of-le}
 use native.Mathlib.Omega.{arith}
 use native.Mathlib.Decide.{decLe}
 use lib.Dec.{T, ltb→lt, lt→ltb}
@@ -14,7 +14,7 @@ use lib.Ieee.Bits.{ofBits-toBits, ofBits-fits}
 use lib.Ieee.Digits.{size-le}
 use lib.Ieee.Fits.{down-pos, kept-lt}
 use lib.Ieee.Scale.{finite}
-use Rattle.number.specs.Number.{infBits}
+use Rattle.number.specs.Number.{zero32, infBits}
 use Rattle.number.proofs.Units.{Top, Is, Unit32, plus, shift, fin-false, no-size, lt-is, pattern, pattern-is}
 use Rattle.number.proofs.Patterns.{val, val-next, val-lt, bits-are}
 
@@ -41,6 +41,19 @@ module _ (x : Float) (u : ℕ) (f : T (fits binary32 x)) (p : T (plus x)) (i : U
       is-unique x (val (toBits binary32 x)) u
       (subst (λ (y : Float). Is y (val (toBits binary32 x))) (ofBits-toBits binary32 x f)
       (bits-are (toBits binary32 x) bits-lt)) (i .is)
+
+-- one above zero has a pattern above 0, and not above the infinity's
+pub above-bits : (x : Float) → T (fits binary32 x) → T (lt zero32 x) → toBits binary32 x ≤ infBits
+unfolding lt ofBits
+above-bits (inf false) f h = unfold toBits in le-refl infBits
+above-bits (fin false m e) f h = le-of-lt (bits-lt (fin false m e) (m * 2 ^ shift e) f tt (fin-false m e f))
+
+pub some-bits : (x : Float) → T (fits binary32 x) → T (lt zero32 x) → 0 < toBits binary32 x
+unfolding lt ofBits
+some-bits x f a = elim (eq-zero-or-pos (toBits binary32 x)) [
+  | inl e ↦ absurd (subst (λ (y : Float). T (lt zero32 y)) (sym (ofBits-toBits binary32 x f) ∙ ap (ofBits binary32) e) a)
+  | inr l ↦ l
+]
 
 -- ---- what lies above, and between
 -- what is finite and above some x that is not below zero has the sign plus

@@ -68,6 +68,10 @@ nextUp (fin s zero e) = ofBits binary32 1
 nextUp (fin false (suc m) e) = ofBits binary32 (suc (toBits binary32 (fin false (suc m) e)))
 nextUp (fin true (suc m) e) = ofBits binary32 (toBits binary32 (fin true (suc m) e) - 1)
 
+-- the greatest f32 below a number above zero; any other stands for itself
+unfoldable pub nextDown : Float → Float
+nextDown x = cond (lt zero32 x) (ofBits binary32 (toBits binary32 x - 1)) x
+
 -- ---- the ranges that a number handed over must lie in: both ends are in, minus zero is zero, a NaN lies in none
 -- 2 ^ 20, the bound of what is handed over
 abbrev pub bound : Float

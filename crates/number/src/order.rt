@@ -1,4 +1,5 @@
-// Absolute value, smaller, larger, clamp, and a zero as it is written (docs/01-scope.md, "Number helpers").
+// Absolute value, smaller, larger, clamp, a zero as it is written, and the next f32 down (docs/01-scope.md, "Number
+// helpers").
 ghost use mathlib.Core.Path.{_≡_};
 ghost use Rattle.number.specs.Number as Def;
 
@@ -41,4 +42,15 @@ pub fn written(x: f32) -> f32
     ensures { λ r. ⌜ r ≡ Def.written x ⌝ }
 {
     if x == 0.0 { 0.0 } else { x }
+}
+
+// The greatest f32 below a number above zero.
+pub fn next_down(x: f32) -> f32
+    ensures { λ r. ⌜ r ≡ Def.nextDown x ⌝ }
+{
+    if 0.0 < x {
+        f32::from_bits(f32::to_bits(x) - 1)
+    } else {
+        x
+    }
 }

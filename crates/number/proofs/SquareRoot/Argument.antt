@@ -16,7 +16,7 @@ use lib.Ieee.Bits.{ofBits-toBits}
 use Rattle.number.specs.Number.{zero32, isFinite, infBits, unitsOf, rootAtLeast, last, rootOf}
 use Rattle.number.proofs.Units.{L, Is, shift, fin-false}
 use Rattle.number.proofs.Patterns.{val, weight, bits-are}
-use Rattle.number.proofs.Neighbours.{bits-lt}
+use Rattle.number.proofs.Neighbours.{above-bits}
 use Rattle.number.proofs.SquareRoot.Nearest.{units-bits}
 
 -- ---- where the definition answers zero
@@ -51,24 +51,12 @@ pub below : (x : Float) → lt x zero32 ≡ true → zero32 ≡ rootOf x
 below x h = not-above x (below-not-above x h)
 
 -- ---- the patterns of numbers above zero
-above-bits : (x : Float) → T (fits binary32 x) → T (lt zero32 x) → toBits binary32 x ≤ infBits
-unfolding lt ofBits
-above-bits (inf false) f h = unfold toBits in le-refl infBits
-above-bits (fin false m e) f h = le-of-lt (bits-lt (fin false m e) (m * 2 ^ shift e) f tt (fin-false m e f))
-
 module _ (x : Float) (f : T (fits binary32 x)) (a : T (lt zero32 x)) where
   abbrev b : ℕ
   b = toBits binary32 x
 
   own : ofBits binary32 b ≡ x
   own = ofBits-toBits binary32 x f
-
-  pub some-bits : 0 < b
-  unfolding lt ofBits
-  some-bits = elim (eq-zero-or-pos b) [
-    | inl e ↦ absurd (subst (λ (y : Float). T (lt zero32 y)) (sym own ∙ ap (ofBits binary32) e) a)
-    | inr l ↦ l
-  ]
 
   inf-not : isFinite (inf false) ≡ false
   unfolding isFinite

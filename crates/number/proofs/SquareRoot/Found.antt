@@ -12,11 +12,11 @@ use Rattle.number.specs.Number.{zero32, isFinite, infBits, unitsOf, root
 use Rattle.number.specs.Inner.{RootBits, wholeOf}
 use Rattle.number.proofs.Units.{L, shift, fin-false}
 use Rattle.number.proofs.Patterns.{weight}
-use Rattle.number.proofs.Neighbours.{bits-lt}
+use Rattle.number.proofs.Neighbours.{bits-lt, some-bits}
 use Rattle.number.proofs.SquareRoot.Squares.{square-next}
 use Rattle.number.proofs.SquareRoot.Digits.{rounded}
 use Rattle.number.proofs.SquareRoot.Bits.{root-is}
-use Rattle.number.proofs.SquareRoot.Argument.{some-bits, scale-normal, lift, raised, scale-subnormal}
+use Rattle.number.proofs.SquareRoot.Argument.{scale-normal, lift, raised, scale-subnormal}
 
 -- ---- every number has a whole root, and less is left than makes the next one
 abbrev Whole : ℕ → Type 0

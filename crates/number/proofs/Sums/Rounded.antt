@@ -86,6 +86,14 @@ sum-ft a b c h = go (ltb a b) (ltb→lt a b)
     go true k = absurd (not-le-of-lt (k tt) h)
     go false k = refl
 
+pub sum-ft-over : (a b c : ℕ) → a < b → sum binary32 false a true b c ≡ round binary32 true (b - a) c
+unfolding sum
+sum-ft-over a b c h = go (ltb a b) (lt→ltb a b h)
+  where
+    go : (t : Bool) → T t
+        → cond t (round binary32 true (b - a) c) (round binary32 false (a - b) c) ≡ round binary32 true (b - a) c
+    go true k = refl
+
 pub sum-tf : (a b c : ℕ) → a ≤ b → sum binary32 true a false b c ≡ round binary32 false (b - a) c
 unfolding sum
 sum-tf a b c h = go (ltb a b) (ltb b a) (ltb→lt b a) (lt→ltb a b)

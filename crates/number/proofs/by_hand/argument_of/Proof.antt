@@ -9,7 +9,8 @@ use lib.Ieee.{binary32, fits, lt, toBits}
 use Rattle.number.specs.Number.{zero32, infBits}
 use Rattle.number.proofs.Patterns.{weight}
 use Rattle.number.proofs.NoNan.{no-nan-lt}
-use Rattle.number.proofs.SquareRoot.Argument.{some-bits, at-top, finite-bits, scale-normal, lift}
+use Rattle.number.proofs.Neighbours.{some-bits}
+use Rattle.number.proofs.SquareRoot.Argument.{at-top, finite-bits, scale-normal, lift}
 use Rattle.number.proofs.SquareRoot.Argument.{Raised, raised, scale-subnormal}
 use Rattle.number.proofs.SquareRoot.Taken.{argument-is, not-above-none, not-finite-none}
 use Rattle.number.proofs.by_hand.argument_of.Statement.{statement}
