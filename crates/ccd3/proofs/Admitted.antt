@@ -56,7 +56,7 @@ module _ (x dx : List (List Float)) (split : ℕ) (l : Limits) (w : Walkable x d
       sound (moved x dx t)
       (moved-within 20 x dx t (lit≤ tt) here moves (zero-to-one t (and-i (le zero32 t) (le t one32) a b) .2))
 
-  pub given : Given l
+  given : Given l
   given = record {
     offset-fits = f .offset;
     clearance-fits = f .clearance;
@@ -68,6 +68,7 @@ module _ (x dx : List (List Float)) (split : ℕ) (l : Limits) (w : Walkable x d
   pub ground : Ground x dx split l
   unfolding squaredAt
   ground = record {
+    given = given;
     limit-fits = f .max-t;
     limit-in = w .max-t;
     sound-start = sound-start;

@@ -13,18 +13,18 @@ use Rattle.number.specs.Number.{zero32}
 use Rattle.number.proofs.Comparing.{le-self}
 use Rattle.number.proofs.NoNan.{no-nan-le}
 use Rattle.admission.specs.declared.Limits.{Limits}
-use Rattle.admission.specs.Admission.{fullAllowance, isAllowance}
+use Rattle.admission.specs.Admission.{fullAllowance, isAllowance, walkRefusal}
 use Rattle.admission.proofs.Admitted.{range-allowance, walk-allowed}
 use Rattle.ccd3.specs.SafeTime.{numbersOf, Visit, next, Walked, visit, above, probing, walk, toldOf}
-use Rattle.ccd3.specs.SafeTime.{start, threshold, firstSquared, touches, safeRefusal, safeWalk, safeTimeOf}
+use Rattle.ccd3.specs.SafeTime.{start, threshold, firstSquared, touches, safeWalk, safeTimeOf}
 use Rattle.ccd3.specs.Allowance.{fiveOf, GrowsFrom}
 use Rattle.ccd3.proofs.WalkLaws.{walk-clears, walk-spends, walk-meets, walk-steps}
 use Rattle.ccd3.proofs.Bracket.{timely-refl}
-use Rattle.ccd3.proofs.Standing.{zero-timely, Ground, Standing, Forward, start-stands, stands-on}
+use Rattle.ccd3.proofs.Standing.{zero-timely, Ground, Standing, start-stands, stands-on}
 use Rattle.ccd3.proofs.Kept.{walk-keeps}
-use Rattle.ccd3.proofs.Threshold.{start-far, forward}
-use Rattle.ccd3.proofs.StartLaws.{number-alike, walked, safe-refused, safe-touches, safe-walks}
-use Rattle.ccd3.proofs.Admitted.{Fitting, ground, given}
+use Rattle.ccd3.proofs.Threshold.{under-start}
+use Rattle.ccd3.proofs.StartLaws.{walked, safe-refused, safe-touches, safe-walks}
+use Rattle.ccd3.proofs.Admitted.{Fitting, ground}
 use Rattle.ccd3.proofs.Promises.{admitted}
 
 -- the kind and the time of a walk's answer
@@ -95,12 +95,12 @@ module _ (x₀ dx : List (List Float)) (split : ℕ) (threshold : Float) (l : Li
           ∙ sym (steps v fewer p a)
 
   -- the time never falls
-  module _ (g : Ground x₀ dx split l) (onwards : Forward x₀ dx split l g threshold) where
+  module _ (g : Ground x₀ dx split l) where
     abbrev Stands : Visit → Type 0
     Stands = Standing x₀ dx split l g threshold
 
     since : (n : ℕ) (v : Visit) → Stands v → T (le (v .time) (timeOf (W n v)))
-    since n v s = walk-keeps x₀ dx split l g threshold onwards n v s .since
+    since n v s = walk-keeps x₀ dx split l g threshold n v s .since
 
     -- walks that are the same end at the same time
     same-time : (fewer more : ℕ) (v : Visit) → Stands v → W more v ≡ W fewer v
@@ -129,7 +129,7 @@ module _ (x₀ dx : List (List Float)) (split : ℕ) (threshold : Float) (l : Li
         go false true p a ih =
             subst (λ (w : Walked). T (le (timeOf w) (timeOf (W (suc more) v)))) (sym (steps v fewer p a))
             (subst (λ (w : Walked). T (le (timeOf (W fewer (onward v))) (timeOf w))) (sym (steps v more p a))
-            (ih (stands-on x₀ dx split l g threshold onwards v s p a)))
+            (ih (stands-on x₀ dx split l g threshold v s p a)))
 
 -- ---- the safe time
 zero-self : T (le zero32 zero32)
@@ -141,15 +141,13 @@ module _ (x₀ dx : List (List Float)) (split : ℕ) (l : Limits) where
 
   module _ (fewer more : ℕ) (h : fewer ≤ more) (a : T (isAllowance fewer)) (b : T (isAllowance more)) where
     -- allowances in their range are refused alike
-    alike : safeRefusal x₀ dx split l more ≡ safeRefusal x₀ dx split l fewer
-    alike =
-        number-alike x₀ dx split l more fewer
-        (walk-allowed x₀ dx split l more b ∙ sym (walk-allowed x₀ dx split l fewer a))
+    alike : walkRefusal x₀ dx split l more ≡ walkRefusal x₀ dx split l fewer
+    alike = walk-allowed x₀ dx split l more b ∙ sym (walk-allowed x₀ dx split l fewer a)
 
     safe-stays : (kindOf (S fewer) ≡ 3 → ⊥) → S more ≡ S fewer
-    safe-stays other = go (safeRefusal x₀ dx split l fewer) (touches x₀ dx split l) refl refl
+    safe-stays other = go (walkRefusal x₀ dx split l fewer) (touches x₀ dx split l) refl refl
       where
-        go : (n : ℕ) (b : Bool) → safeRefusal x₀ dx split l fewer ≡ n → touches x₀ dx split l ≡ b → S more ≡ S fewer
+        go : (n : ℕ) (b : Bool) → walkRefusal x₀ dx split l fewer ≡ n → touches x₀ dx split l ≡ b → S more ≡ S fewer
         go (suc n) b e t =
             safe-refused x₀ dx split l more (suc n) (alike ∙ e) (λ k. omega arith)
             ∙ sym (safe-refused x₀ dx split l fewer (suc n) e (λ k. omega arith))
@@ -158,7 +156,7 @@ module _ (x₀ dx : List (List Float)) (split : ℕ) (l : Limits) where
         go zero false e t =
             let is = safe-walks x₀ dx split l fewer e t in
             safe-walks x₀ dx split l more (alike ∙ e) t
-            ∙ walk-stays x₀ dx split (threshold l) l fewer more h (start x₀ dx split) (λ k. other (ap kindOf is ∙ k))
+            ∙ walk-stays x₀ dx split (threshold x₀ dx split l) l fewer more h (start x₀ dx split) (λ k. other (ap kindOf is ∙ k))
             ∙ sym is
 
     -- what is no budget with fewer is none with more
@@ -173,7 +171,7 @@ module _ (x₀ dx : List (List Float)) (split : ℕ) (l : Limits) where
 
     safe-grows : Fitting x₀ l → T (le (timeOf (S fewer)) (timeOf (S more)))
     unfolding numbersOf firstSquared
-    safe-grows f = go (safeRefusal x₀ dx split l fewer) (touches x₀ dx split l) refl refl
+    safe-grows f = go (walkRefusal x₀ dx split l fewer) (touches x₀ dx split l) refl refl
       where
         both : (v w : Walked) → S fewer ≡ v → S more ≡ w → T (le (timeOf v) (timeOf w))
             → T (le (timeOf (S fewer)) (timeOf (S more)))
@@ -181,7 +179,7 @@ module _ (x₀ dx : List (List Float)) (split : ℕ) (l : Limits) where
             subst (λ (u : Walked). T (le (timeOf u) (timeOf (S more)))) (sym p)
             (subst (λ (u : Walked). T (le (timeOf v) (timeOf u))) (sym q) h)
 
-        go : (n : ℕ) (b : Bool) → safeRefusal x₀ dx split l fewer ≡ n → touches x₀ dx split l ≡ b
+        go : (n : ℕ) (b : Bool) → walkRefusal x₀ dx split l fewer ≡ n → touches x₀ dx split l ≡ b
             → T (le (timeOf (S fewer)) (timeOf (S more)))
         go (suc n) b e t =
             both _ _ (safe-refused x₀ dx split l fewer (suc n) e (λ k. omega arith))
@@ -191,18 +189,18 @@ module _ (x₀ dx : List (List Float)) (split : ℕ) (l : Limits) where
         go zero false e t =
             let k = admitted x₀ dx split l fewer e in
             let g = ground x₀ dx split l (k .0) f in
-            let d = given x₀ dx split l (k .0) f in
             both (walked x₀ dx split l fewer) (walked x₀ dx split l more) (safe-walks x₀ dx split l fewer e t)
             (safe-walks x₀ dx split l more (alike ∙ e) t)
-            (walk-grows x₀ dx split (threshold l) l g (forward x₀ dx split l g d) fewer more h (start x₀ dx split)
-            (start-stands x₀ dx split l g (threshold l) (start-far x₀ dx split l g d (k .2) t)))
+            (walk-grows x₀ dx split (threshold x₀ dx split l) l g fewer more h (start x₀ dx split)
+            (start-stands x₀ dx split l g (threshold x₀ dx split l)
+            (under-start l (g .given) (firstSquared x₀ dx split l) (g .sound-start) t)))
 
   -- the allowance of a budget is in its range
   budget-range : (allowed : ℕ) → kindOf (S allowed) ≡ 3 → allowed ≤ fullAllowance
   unfolding numbersOf
-  budget-range allowed k = go (safeRefusal x₀ dx split l allowed) refl
+  budget-range allowed k = go (walkRefusal x₀ dx split l allowed) refl
     where
-      go : (n : ℕ) → safeRefusal x₀ dx split l allowed ≡ n → allowed ≤ fullAllowance
+      go : (n : ℕ) → walkRefusal x₀ dx split l allowed ≡ n → allowed ≤ fullAllowance
       go zero e = admitted x₀ dx split l allowed e .1 .1
       go (suc n) e =
           let z : _≡_ {A = ℕ} 4 3 =

@@ -1,23 +1,27 @@
--- Times only grow: where the plain step is not below zero no step is, and the time after such a step is not before this
--- one, and no NaN (specs/SafeTime.antt). Assumes nothing.
-use mathlib.Core.Bool.{Bool, true, false, cond}
+-- Times only grow: no step is below zero, from any place within the time limit, whatever the distance there; and the time
+-- after the step is not before this one, and no NaN (specs/SafeTime.antt). Assumes nothing.
+use mathlib.Core.Path.{_≡_, refl, sym, subst}
+use mathlib.Core.Bool.{Bool, true, false, cond, not}
 use mathlib.Core.List.{List, [], _∷_}
 use Prim.Native.Nat.{ℕ}
-use lib.Dec.{eqb, T}
-use lib.Ieee.{Float, nan, inf, fin, binary32, lt, le, fits}
+use lib.Dec.{eqb, T, not-T}
+use lib.Ieee.{Float, fin, binary32, lt, le, fits, isNan, ofBits}
 use lib.Ieee.Fits.{add-fits, mul-fits, div-fits}
 use lib.Ieee.Bits.{ofBits-fits}
 use lib.Ieee.Scale.{finite}
-use Rattle.number.specs.Number.{_⊕_, _⊖_, _⊗_, _⊘_, zero32, one32, largest32, smaller, larger, bound, rootOf}
+use Rattle.number.specs.Number.{_⊕_, _⊖_, _⊗_, _⊘_, zero32, one32, largest32, smaller, larger, rootOf}
 use Rattle.number.proofs.Choice.{pick, larger-keeps, smaller-keeps}
-use Rattle.number.proofs.Later.{later-any}
-use Rattle.number.proofs.Signs.{plus-up, sum-plus}
+use Rattle.number.proofs.Comparing.{not-lt-le}
+use Rattle.number.proofs.Later.{later-any, earlier}
+use Rattle.number.proofs.NoNan.{no-nan-lt, no-nan-le}
+use Rattle.number.proofs.Signs.{quotient-up}
+use Rattle.number.proofs.Transitive.{lt-not-le, le-le-trans}
 use Rattle.number.proofs.Units.{plus}
 use Rattle.number.proofs.Within.{Within}
 use Rattle.geometry.specs.Geometry.{Cross, crossPairs}
 use Rattle.admission.specs.declared.Limits.{Limits}
 use Rattle.ccd3.specs.declared.Aim.{Aim}
-use Rattle.ccd3.specs.SafeTime.{timeToPark, leftOf, speedOf, stops, leastOver, directional, park, dip, plain}
+use Rattle.ccd3.specs.SafeTime.{timeToPark, leftOf, speedOf, stops, leastOver, directional, dip, plain}
 use Rattle.ccd3.specs.SafeTime.{aim, Visit, Step, stepFrom, next}
 
 -- a squared distance that a walk can compute with: an f32 with the sign plus, and not too large
@@ -26,49 +30,87 @@ pub record Sound (d : Float) : Type 0 where
   pub sign : T (plus d)
   pub bound : Within 60 d
 
--- what is above something with the sign plus has it too
-pub above-plus : (x y : Float) → T (plus x) → T (lt x y) → T (plus y)
-unfolding lt
-above-plus (fin false m e) (inf false) p h = tt
-above-plus (fin false m e) (inf true) p h = h
-above-plus (fin false m e) (fin false n d) p h = tt
-above-plus (fin false m e) (fin true n d) p h = h
-above-plus (fin false m e) nan p h = h
-above-plus (inf false) nan p h = h
-above-plus (inf false) (inf true) p h = h
-above-plus (inf false) (inf false) p h = tt
-above-plus (inf false) (fin t n d) p h = absurd h
+zero-up : T (le zero32 zero32) × T (not (lt zero32 zero32)) × T (not (isNan zero32))
+unfolding le isNan ofBits
+zero-up = (tt, tt, tt)
 
-larger-plus : (x y : Float) → T (plus x) → T (plus (larger x y))
+largest-up : T (le zero32 largest32)
+unfolding le ofBits
+largest-up = tt
+
+finite-number : (x : Float) → T (finite x) → T (not (isNan x))
+unfolding isNan
+finite-number (fin s m e) f = tt
+
+-- ---- the directional step is an f32, and not below zero
+held-up : (x : Float) → T (not (lt (larger x zero32) zero32))
 unfolding larger
-larger-plus x y p = go (lt x y) (above-plus x y p)
+held-up x = go (lt x zero32) refl
   where
-    go : (b : Bool) → (T b → T (plus y)) → T (plus (cond b y x))
-    go true h = h tt
-    go false h = p
+    go : (b : Bool) → lt x zero32 ≡ b → T (not (lt (cond b zero32 x) zero32))
+    go true e = zero-up .1
+    go false e = subst (λ (c : Bool). T (not c)) (sym e) tt
 
--- ---- the directional step is an f32
 module _ (x dx : List (List Float)) (a : Aim) where
   abbrev F : Float → Type 0
   F t = T (fits binary32 t)
 
-  least-fits : (ps : List Cross) (least : Float) → F least → F (leastOver a x dx ps least)
-  unfolding leastOver timeToPark
-  least-fits [] least h = h
-  least-fits (p ∷ ps) least h =
-      let left = leftOf a x dx p in
-      let speed = speedOf a x dx p in
-      let time = timeToPark a left speed in
-      let less = cond (lt zero32 speed) (smaller least time) least in
-      pick F (stops a x dx p) zero32 (leastOver a x dx ps less) (ofBits-fits binary32 0)
-      (least-fits ps less
-      (pick F (lt zero32 speed) (smaller least time) least
-      (smaller-keeps F least time h (div-fits binary32 (larger (left ⊖ a .park ⊗ a .norm) zero32) speed)) h))
+  abbrev Up : Float → Type 0
+  Up t = T (le zero32 t)
 
-  directional-fits : (split : ℕ) → F (directional x dx split a .length)
+  -- a time to park that takes the least one's place is not below zero
+  time-up : (left speed least : Float) → T (lt zero32 speed) → Up least → Up (smaller least (timeToPark a left speed))
+  unfolding smaller timeToPark
+  time-up left speed least h k = go (lt time least) (λ t. no-nan-lt time least t .0)
+    where
+      rest : Float
+      rest = left ⊖ a .park ⊗ a .norm
+
+      time : Float
+      time = larger rest zero32 ⊘ speed
+
+      go : (b : Bool) → (T b → T (not (isNan time))) → Up (cond b time least)
+      go true n = quotient-up (larger rest zero32) speed (held-up rest) h (n tt)
+      go false n = k
+
+  time-fits : (left speed : Float) → F (timeToPark a left speed)
+  unfolding timeToPark
+  time-fits left speed = div-fits binary32 (larger (left ⊖ a .park ⊗ a .norm) zero32) speed
+
+  least-step : (ps : List Cross) (least : Float) → F least → Up least
+      → F (leastOver a x dx ps least) × Up (leastOver a x dx ps least)
+  unfolding leastOver
+  least-step [] least h k = (h, k)
+  least-step (p ∷ ps) least h k =
+      go (stops a x dx p) (lt zero32 (speedOf a x dx p)) refl (λ least h k. least-step ps least h k)
+    where
+      time : Float
+      time = timeToPark a (leftOf a x dx p) (speedOf a x dx p)
+
+      go : (b c : Bool) → lt zero32 (speedOf a x dx p) ≡ c
+          → ((least : Float) → F least → Up least → F (leastOver a x dx ps least) × Up (leastOver a x dx ps least))
+          → let r = cond b zero32 (leastOver a x dx ps (cond c (smaller least time) least)) in F r × Up r
+      go true c e rest = (ofBits-fits binary32 0, zero-up .0)
+      go false true e rest =
+          rest (smaller least time) (smaller-keeps F least time h (time-fits (leftOf a x dx p) (speedOf a x dx p)))
+          (time-up (leftOf a x dx p) (speedOf a x dx p) least (subst T (sym e) tt) k)
+      go false false e rest = rest least h k
+
+  directional-step : (split : ℕ) → F (directional x dx split a .length) × Up (directional x dx split a .length)
   unfolding directional
-  directional-fits split =
-      least-fits (crossPairs (cond (eqb split 2) 2 3)) largest32 (ofBits-fits binary32 0x7f7f_ffff)
+  directional-step split =
+      least-step (crossPairs (cond (eqb split 2) 2 3)) largest32 (ofBits-fits binary32 0x7f7f_ffff) largest-up
+
+-- the larger of a number and one that is not below zero is not below zero
+larger-up : (p d : Float) → T (not (isNan p)) → T (le zero32 d) → T (le zero32 (larger p d))
+unfolding larger
+larger-up p d n h = go (lt p d) refl
+  where
+    go : (b : Bool) → lt p d ≡ b → T (le zero32 (cond b d p))
+    go true e = h
+    go false e =
+        le-le-trans zero32 d p h
+        (not-lt-le p d n (no-nan-le zero32 d h .1) (subst (λ (c : Bool). T (not c)) (sym e) tt))
 
 -- ---- the step, and the next time
 module _ (dx : List (List Float)) (split : ℕ) (l : Limits) (v : Visit) where
@@ -78,34 +120,48 @@ module _ (dx : List (List Float)) (split : ℕ) (l : Limits) (v : Visit) where
   abbrev d : Float
   d = directional (v .points) dx split (aim l (v .near)) .length
 
-  -- by whether the directional step is tried
-  by-trial : (P : Float → Type 0) → P (larger p d) → P p → P (stepFrom dx split l v .length)
-  unfolding stepFrom
-  by-trial P h k = go (le (v .time ⊕ p) (l .«max_t»))
-    where
-      go : (b : Bool) → P (cond {A = Step} b (record { length = larger p d; tried = true; directed = lt p d })
-          (record { length = p; tried = false; directed = false }) .length)
-      go true = h
-      go false = k
+  abbrev tried : Bool
+  tried = le (v .time ⊕ p) (l .«max_t»)
 
-  -- where the plain step is not below zero, no step is
-  pub step-plus : T (plus p) → T (plus (stepFrom dx split l v .length))
-  step-plus h = by-trial (λ t. T (plus t)) (larger-plus p d h) h
+  p-fits : T (fits binary32 p)
+  p-fits = mul-fits binary32 (rootOf (v .near .squared) ⊖ dip l) (one32 ⊘ l .«u_max»)
+
+  d-step : T (fits binary32 d) × T (le zero32 d)
+  d-step = directional-step (v .points) dx (aim l (v .near)) split
+
+  -- by whether the directional step is tried
+  by-trial : (P : Float → Type 0) → P (larger p d) → (T (not tried) → P p) → P (stepFrom dx split l v .length)
+  unfolding stepFrom
+  by-trial P h k = go tried refl
+    where
+      go : (b : Bool) → tried ≡ b → P (cond {A = Step} b (record { length = larger p d; tried = true; directed = lt p d })
+          (record { length = p; tried = false; directed = false }) .length)
+      go true e = h
+      go false e = k (subst (λ (c : Bool). T (not c)) (sym e) tt)
 
   step-fits : T (fits binary32 (stepFrom dx split l v .length))
   step-fits =
-      let f = mul-fits binary32 (rootOf (v .near .squared) ⊖ dip l) (one32 ⊘ l .«u_max») in
-      by-trial (λ t. T (fits binary32 t))
-      (larger-keeps (λ t. T (fits binary32 t)) p d f (directional-fits (v .points) dx (aim l (v .near)) split)) f
+      by-trial (λ t. T (fits binary32 t)) (larger-keeps (λ t. T (fits binary32 t)) p d p-fits (d-step .0)) (λ n. p-fits)
 
-  -- where the step is not below zero, the next time is not before this one; with the sign plus, so no NaN
-  pub next-later : T (plus (stepFrom dx split l v .length)) → T (fits binary32 (v .time)) → T (finite (v .time))
-      → T (plus (v .time)) → T (le (v .time) (next dx split l v)) × T (plus (next dx split l v))
-  next-later s f k q = (
-    later-any (v .time) (stepFrom dx split l v .length) f k q (plus-up (v .time) q) step-fits
-        (plus-up (stepFrom dx split l v .length) s) .0,
-    sum-plus (v .time) (stepFrom dx split l v .length) q s,
-  )
+  -- at a time with the sign plus and within the time limit, from where the plain step is finite
+  module _ (f : T (fits binary32 (v .time))) (k : T (finite (v .time))) (q : T (plus (v .time)))
+      (in-limit : T (le (v .time) (l .«max_t»))) (number : T (finite p)) where
+    -- where the directional step is not tried, the plain one is not below zero: it leads past the time limit
+    plain-up : T (not tried) → T (le zero32 p)
+    plain-up n =
+        not-lt-le p zero32 (finite-number p number) (zero-up .2)
+        (not-T (lt p zero32) (λ h. no tried n
+        (le-le-trans (v .time ⊕ p) (v .time) (l .«max_t») (earlier (v .time) p f k q p-fits number h) in-limit)))
+      where
+        no : (b : Bool) → T (not b) → T b → ⊥
+        no false n h = h
+
+    step-up : T (le zero32 (stepFrom dx split l v .length))
+    step-up = by-trial (λ t. T (le zero32 t)) (larger-up p d (finite-number p number) (d-step .1)) plain-up
+
+    -- the next time is not before this one; with the sign plus, so no NaN
+    pub next-later : T (le (v .time) (next dx split l v)) × T (plus (next dx split l v))
+    next-later = later-any (v .time) (stepFrom dx split l v .length) f k q step-fits step-up
 
   pub next-fits : T (fits binary32 (next dx split l v))
   next-fits = add-fits binary32 (v .time) (stepFrom dx split l v .length)

@@ -1,6 +1,6 @@
 -- Every walk from a place to stand keeps the promises (specs/SafeTime.antt): the counts, the range of the time, and the
 -- computed squared distance at the time, at its neighbour and at the probes; and its time is not before that place. Of any
--- number of probes allowed, and any threshold above which no step is below zero. Assumes nothing.
+-- number of probes allowed, and any threshold. Assumes nothing.
 use mathlib.Core.Path.{_≡_, refl, sym, ap, _∙_, subst}
 use mathlib.Core.Bool.{Bool, true, false, cond}
 use mathlib.Core.List.{List, _∷_}
@@ -14,7 +14,7 @@ use lib.Ieee.Bits.{ofBits-fits}
 use lib.Ieee.Fits.{eq→eqb}
 use Rattle.number.specs.Number.{zero32, nextUp, written, halve}
 use Rattle.number.proofs.NextUp.{next-of}
-use Rattle.number.proofs.Signs.{plus-up}
+use Rattle.number.proofs.Signs.{plus-up, above-plus}
 use Rattle.number.proofs.Transitive.{le-le-trans}
 use Rattle.number.proofs.Units.{Unit32, zero-is, plus, same-float}
 use Rattle.number.proofs.Units.Compared.{Is, finite-is, eq-is, lt-says, says-lt, le-says, says-le}
@@ -25,8 +25,7 @@ use Rattle.ccd3.specs.SafeTime.{numbersOf, Visit, next, Walked, visit, a
 use Rattle.ccd3.specs.SafeTime.{InTime, Every, Rising, Stopped}
 use Rattle.ccd3.proofs.WalkLaws.{walk-clears, walk-spends, walk-meets, walk-steps}
 use Rattle.ccd3.proofs.Bracket.{Timely, timely-refl, Bracket, bracket-ends}
-use Rattle.ccd3.proofs.Growth.{above-plus}
-use Rattle.ccd3.proofs.Standing.{zero-timely, Ground, Standing, Forward, limit-from, limit-units, stands-on}
+use Rattle.ccd3.proofs.Standing.{zero-timely, Ground, Standing, limit-from, limit-units, stands-on}
 use Rattle.ccd3.proofs.Standing.{brackets, next-limit, next-timely, later}
 
 -- ---- a time with the sign plus is written as it is
@@ -152,93 +151,92 @@ module _ (x₀ dx : List (List Float)) (split : ℕ) (l : Limits) (g : Ground x�
     every left t ps f (Clear u) h = (h .0, (f, h .1))
     every left t ps f (Budget u) h = (h .0, h .1, ap suc (h .2))
 
-    module _ (forward : Forward x₀ dx split l g threshold) where
-      abbrev W : ℕ → Visit → Walked
-      W = walk x₀ dx split threshold l
+    abbrev W : ℕ → Visit → Walked
+    W = walk x₀ dx split threshold l
 
-      abbrev Stands : Visit → Type 0
-      Stands = Standing x₀ dx split l g threshold
+    abbrev Stands : Visit → Type 0
+    Stands = Standing x₀ dx split l g threshold
 
-      module _ (v : Visit) (s : Stands v) where
-        abbrev t : Float
-        t = next dx split l v
+    module _ (v : Visit) (s : Stands v) where
+      abbrev t : Float
+      t = next dx split l v
 
-        -- a probe is made in time, and not before the time where the walk stands
-        probe-rises : lt (l .«max_t») t ≡ false → T (le (v .time) t) × InTime l t
-        probe-rises p = (
-          later x₀ dx split l g threshold forward v s .0,
-          in-time t (next-timely x₀ dx split l g threshold forward v s p)
-              (next-limit x₀ dx split l g threshold forward v s p),
-        )
+      -- a probe is made in time, and not before the time where the walk stands
+      probe-rises : lt (l .«max_t») t ≡ false → T (le (v .time) t) × InTime l t
+      probe-rises p = (
+        later x₀ dx split l g threshold v s .0,
+        in-time t (next-timely x₀ dx split l g threshold v s p)
+            (next-limit x₀ dx split l g threshold v s p),
+      )
 
-        clear-keeps : (left : ℕ) → lt (l .«max_t») t ≡ true → Kept left v (W left v)
-        unfolding Every Rising numbersOf
-        clear-keeps left p =
-            subst (Kept left v) (sym (walk-clears x₀ dx split threshold l left v p))
-            (record {
-              probes = zero-le;
-              halvings = zero-le;
-              rising = tt;
-              since = limit-after (v .time) (s .time) (s .in-limit);
-              says = (refl, tt);
-            })
+      clear-keeps : (left : ℕ) → lt (l .«max_t») t ≡ true → Kept left v (W left v)
+      unfolding Every Rising numbersOf
+      clear-keeps left p =
+          subst (Kept left v) (sym (walk-clears x₀ dx split threshold l left v p))
+          (record {
+            probes = zero-le;
+            halvings = zero-le;
+            rising = tt;
+            since = limit-after (v .time) (s .time) (s .in-limit);
+            says = (refl, tt);
+          })
 
-        spent-keeps : lt (l .«max_t») t ≡ false → Kept 0 v (W 0 v)
-        unfolding Rising numbersOf
-        spent-keeps p =
-            subst (Kept 0 v) (sym (walk-spends x₀ dx split threshold l v p))
-            (record {
-              probes = zero-le;
-              halvings = zero-le;
-              rising = tt;
-              since = timely-refl (v .time) (s .time);
-              says = (in-time (v .time) (s .time) (s .in-limit), s .apart-at, refl);
-            })
+      spent-keeps : lt (l .«max_t») t ≡ false → Kept 0 v (W 0 v)
+      unfolding Rising numbersOf
+      spent-keeps p =
+          subst (Kept 0 v) (sym (walk-spends x₀ dx split threshold l v p))
+          (record {
+            probes = zero-le;
+            halvings = zero-le;
+            rising = tt;
+            since = timely-refl (v .time) (s .time);
+            says = (in-time (v .time) (s .time) (s .in-limit), s .apart-at, refl);
+          })
 
-        met-keeps : (left : ℕ) → lt (l .«max_t») t ≡ false → far t ≡ false → Kept (suc left) v (W (suc left) v)
-        unfolding Rising numbersOf
-        met-keeps left p a =
-            let r = stopped (v .time) t (next-limit x₀ dx split l g threshold forward v s p)
-            (brackets x₀ dx split l g threshold forward v s p a) in
-            let q = probe-rises p in
-            subst (Kept (suc left) v) (sym (walk-meets x₀ dx split threshold l left v p a))
-            (record {
-              probes = suc-le-suc zero-le;
-              halvings = r .2;
-              rising = (q .0, q .1, tt);
-              since = r .3;
-              says = (r .0, r .1);
-            })
+      met-keeps : (left : ℕ) → lt (l .«max_t») t ≡ false → far t ≡ false → Kept (suc left) v (W (suc left) v)
+      unfolding Rising numbersOf
+      met-keeps left p a =
+          let r = stopped (v .time) t (next-limit x₀ dx split l g threshold v s p)
+          (brackets x₀ dx split l g threshold v s p a) in
+          let q = probe-rises p in
+          subst (Kept (suc left) v) (sym (walk-meets x₀ dx split threshold l left v p a))
+          (record {
+            probes = suc-le-suc zero-le;
+            halvings = r .2;
+            rising = (q .0, q .1, tt);
+            since = r .3;
+            says = (r .0, r .1);
+          })
 
-        step-keeps : (left : ℕ) → lt (l .«max_t») t ≡ false → far t ≡ true
-            → Kept left (visit x₀ dx split t) (W left (visit x₀ dx split t)) → Kept (suc left) v (W (suc left) v)
-        unfolding Rising
-        step-keeps left p a k =
-            let w = W left (visit x₀ dx split t) in
-            let q = probe-rises p in
-            subst (Kept (suc left) v) (sym (walk-steps x₀ dx split threshold l left v p a))
-            (record {
-              probes = suc-le-suc (k .probes);
-              halvings = k .halvings;
-              rising = (q .0, q .1, k .rising);
-              since = le-le-trans (v .time) t _ (q .0) (k .since);
-              says = every left t (w .probed) a (w .ending .answer) (k .says);
-            })
+      step-keeps : (left : ℕ) → lt (l .«max_t») t ≡ false → far t ≡ true
+          → Kept left (visit x₀ dx split t) (W left (visit x₀ dx split t)) → Kept (suc left) v (W (suc left) v)
+      unfolding Rising
+      step-keeps left p a k =
+          let w = W left (visit x₀ dx split t) in
+          let q = probe-rises p in
+          subst (Kept (suc left) v) (sym (walk-steps x₀ dx split threshold l left v p a))
+          (record {
+            probes = suc-le-suc (k .probes);
+            halvings = k .halvings;
+            rising = (q .0, q .1, k .rising);
+            since = le-le-trans (v .time) t _ (q .0) (k .since);
+            says = every left t (w .probed) a (w .ending .answer) (k .says);
+          })
 
-      pub walk-keeps : (left : ℕ) (v : Visit) → Stands v → Kept left v (W left v)
-      walk-keeps zero v s = go (lt (l .«max_t») (next dx split l v)) refl
-        where
-          go : (b : Bool) → lt (l .«max_t») (next dx split l v) ≡ b → Kept 0 v (W 0 v)
-          go true p = clear-keeps v s 0 p
-          go false p = spent-keeps v s p
-      walk-keeps (suc left) v s =
-          go (lt (l .«max_t») (next dx split l v)) (far (next dx split l v)) refl refl
-          (walk-keeps left (visit x₀ dx split (next dx split l v)))
-        where
-          go : (b c : Bool) → lt (l .«max_t») (next dx split l v) ≡ b → far (next dx split l v) ≡ c
-              → (Stands (visit x₀ dx split (next dx split l v))
-              → Kept left (visit x₀ dx split (next dx split l v)) (W left (visit x₀ dx split (next dx split l v))))
-              → Kept (suc left) v (W (suc left) v)
-          go true c p a h = clear-keeps v s (suc left) p
-          go false true p a h = step-keeps v s left p a (h (stands-on x₀ dx split l g threshold forward v s p a))
-          go false false p a h = met-keeps v s left p a
+    pub walk-keeps : (left : ℕ) (v : Visit) → Stands v → Kept left v (W left v)
+    walk-keeps zero v s = go (lt (l .«max_t») (next dx split l v)) refl
+      where
+        go : (b : Bool) → lt (l .«max_t») (next dx split l v) ≡ b → Kept 0 v (W 0 v)
+        go true p = clear-keeps v s 0 p
+        go false p = spent-keeps v s p
+    walk-keeps (suc left) v s =
+        go (lt (l .«max_t») (next dx split l v)) (far (next dx split l v)) refl refl
+        (walk-keeps left (visit x₀ dx split (next dx split l v)))
+      where
+        go : (b c : Bool) → lt (l .«max_t») (next dx split l v) ≡ b → far (next dx split l v) ≡ c
+            → (Stands (visit x₀ dx split (next dx split l v))
+            → Kept left (visit x₀ dx split (next dx split l v)) (W left (visit x₀ dx split (next dx split l v))))
+            → Kept (suc left) v (W (suc left) v)
+        go true c p a h = clear-keeps v s (suc left) p
+        go false true p a h = step-keeps v s left p a (h (stands-on x₀ dx split l g threshold v s p a))
+        go false false p a h = met-keeps v s left p a

@@ -1,6 +1,5 @@
 -- Where a walk can stand: at a time from 0 to the time limit where the squared distance is above the threshold. Each
--- probe above the threshold is such a place, and one that is not makes a bracket. Of any threshold above which no step
--- is below zero. Assumes nothing.
+-- probe above the threshold is such a place, and one that is not makes a bracket. Of any threshold. Assumes nothing.
 use mathlib.Core.Path.{_≡_, refl, sym, ap, _∙_, subst}
 use mathlib.Core.Logic.{inl, inr}
 use mathlib.Core.Bool.{Bool, true, false, not, true≢false}
@@ -23,9 +22,10 @@ use Rattle.number.proofs.Within.{within-finite}
 use Rattle.geometry.specs.Geometry.{moved}
 use Rattle.distance.specs.Distance.{nearestOf}
 use Rattle.admission.specs.declared.Limits.{Limits}
-use Rattle.ccd3.specs.SafeTime.{Visit, stepFrom, next, squaredAt, above, start, visit}
+use Rattle.ccd3.specs.SafeTime.{Visit, next, squaredAt, above, start, visit}
 use Rattle.ccd3.proofs.Bracket.{Timely, Bracket}
 use Rattle.ccd3.proofs.Growth.{Sound, next-later, next-fits}
+use Rattle.ccd3.proofs.PlainStep.{Given, plain-finite}
 
 number : {d : Float} → Sound d → T (not (isNan d))
 number {d} s = no-nan-le zero32 d (plus-up d (s .sign)) .1
@@ -34,9 +34,10 @@ pub zero-timely : Timely zero32
 unfolding ofBits
 zero-timely = record { units = 0; is = refl; fit = ofBits-fits binary32 0; sign = tt }
 
--- what is known of an admitted call: the time limit is an f32 from 0 to 1, and the squared distances at the start, which
--- is time 0, and at every time from 0 to 1 are sound
+-- what is known of an admitted call: its limits, the time limit among them an f32 from 0 to 1, and that the squared
+-- distances at the start, which is time 0, and at every time from 0 to 1 are sound
 pub record Ground (x₀ dx : List (List Float)) (split : ℕ) (l : Limits) : Type 0 where
+  pub given : Given l
   pub limit-fits : T (fits binary32 (l .«max_t»))
   pub limit-in : T (zeroToOne (l .«max_t»))
   pub sound-start : Sound (nearestOf split x₀ .squared)
@@ -83,10 +84,6 @@ module _ (x₀ dx : List (List Float)) (split : ℕ) (l : Limits) (g : Ground x�
       pub apart : lt threshold (v .near .squared) ≡ true
       pub apart-at : far (v .time) ≡ true
 
-    -- no step from above the threshold is below zero
-    abbrev pub Forward : Type 0
-    Forward = (v : Visit) → Standing v → T (plus (stepFrom dx split l v .length))
-
     pub start-stands : lt threshold (nearestOf split x₀ .squared) ≡ true → Standing (start x₀ dx split)
     unfolding above
     start-stands h = record {
@@ -98,14 +95,14 @@ module _ (x₀ dx : List (List Float)) (split : ℕ) (l : Limits) (g : Ground x�
     }
 
     -- ---- the next time
-    module _ (forward : Forward) (v : Visit) (s : Standing v) where
+    module _ (v : Visit) (s : Standing v) where
       abbrev t : Float
       t = next dx split l v
 
       pub later : T (le (v .time) t) × T (plus t)
       later =
-          next-later dx split l v (forward v s) (s .time .fit) (finite-is (v .time) (s .time .units) (s .time .is))
-          (s .time .sign)
+          next-later dx split l v (s .time .fit) (finite-is (v .time) (s .time .units) (s .time .is)) (s .time .sign)
+          (s .in-limit) (plain-finite l (g .given) (v .near .squared) (s .sound))
 
       module _ (p : lt (l .«max_t») t ≡ false) where
         pub next-limit : T (le t (l .«max_t»))

@@ -1,60 +1,129 @@
--- The safe time's threshold (specs/SafeTime.antt), the squared park distance: a start that is neither touching nor
--- between offset and park is above it, and no step from above it is below zero. Assumes nothing.
-use mathlib.Core.Path.{_≡_, sym, subst}
-use mathlib.Core.Bool.{true, false}
-use mathlib.Core.List.{List}
-use Prim.Native.Nat.{ℕ, _≤_, _<_}
+-- The safe time's threshold (specs/SafeTime.antt), from a first squared distance above the squared offset: it is below the
+-- first, not below the squared offset and not above the squared park distance, which it is where the first is above that.
+-- Assumes nothing.
+use mathlib.Core.Path.{_≡_, refl, sym, subst}
+use mathlib.Core.Bool.{Bool, true, false, not, cond}
+use Prim.Native.Nat.{ℕ, _+_, _*_, _^_, _≤_, _<_}
+use native.Mathlib.Nat.{le-trans, le-of-eq, lt-of-le-of-lt, one-mul, mul-le-mul, mul-le-mul-right}
 use native.Mathlib.Omega.{arith}
-use lib.Dec.{T}
-use lib.Ieee.{Float, lt, le, eq}
+use lib.Dec.{T, lit<, lit≤}
+use lib.Pow.{pow-pos}
+use lib.Ieee.{Float, binary32, fits, lt, le, isNan}
 use lib.Ieee.Bits.{is-true}
-use lib.Ieee.Fits.{and-i, eq→eqb}
-use Rattle.number.proofs.Comparing.{or-left, or-right}
-use Rattle.number.proofs.Signs.{plus-up}
-use Rattle.number.proofs.Units.{of-float}
-use Rattle.number.proofs.Units.Compared.{eq-is, says-le, says-lt}
-use Rattle.number.proofs.Within.{within-finite}
-use Rattle.distance.specs.Distance.{nearestOf}
+use lib.Ieee.Fits.{and-l, mul-fits}
+use Rattle.number.specs.Number.{_⊗_, zero32, smaller, nextDown, bound, zeroToBound}
+use Rattle.number.proofs.Choice.{smaller-keeps}
+use Rattle.number.proofs.Comparing.{not-lt-le, le-self, lt-le}
+use Rattle.number.proofs.Later.{grows}
+use Rattle.number.proofs.NextDown.{next-down-below, next-down-greatest}
+use Rattle.number.proofs.NoNan.{no-nan-lt, no-nan-le}
+use Rattle.number.proofs.Products.{square-le}
+use Rattle.number.proofs.Ranges.{zero-to-bound}
+use Rattle.number.proofs.Rounding.{rnd, rnd-mono, rnd-fix}
+use Rattle.number.proofs.Signs.{plus-up, square-plus}
+use Rattle.number.proofs.Sums.{add-is}
+use Rattle.number.proofs.Transitive.{le-lt-trans, lt-not-le}
+use Rattle.number.proofs.Units.{Unit32, of-float}
+use Rattle.number.proofs.Units.Compared.{L}
+use Rattle.number.proofs.Within.{within-finite, within-units}
 use Rattle.admission.specs.declared.Limits.{Limits}
-use Rattle.ccd3.specs.SafeTime.{threshold, squaredPark, firstSquared, touches, between}
-use Rattle.ccd3.proofs.Growth.{step-plus}
-use Rattle.ccd3.proofs.PlainStep.{Given, squaredOffset, squared-park, squared-offset, plain-plus}
-use Rattle.ccd3.proofs.Standing.{Ground, Forward}
+use Rattle.ccd3.specs.SafeTime.{park, squaredOffset, squaredPark, thresholdFrom}
+use Rattle.ccd3.proofs.Growth.{Sound}
+use Rattle.ccd3.proofs.PlainStep.{Given, offset-within}
 
-module _ (x₀ dx : List (List Float)) (split : ℕ) (l : Limits) (g : Ground x₀ dx split l) (given : Given l) where
-  pub start-far : between x₀ dx split l ≡ false → touches x₀ dx split l ≡ false
-      → lt (threshold l) (firstSquared x₀ dx split l) ≡ true
-  unfolding firstSquared
-  start-far f e =
-      let d = nearestOf split x₀ .squared in
-      let o = squared-offset l given in
-      let p = squared-park l given in
-      let s = g .sound-start in
-      let v = of-float d (s .fit) (within-finite 60 d (s .bound)) (plus-up d (s .sign)) in
-      let beyond : o .0 < v .0 =
-      beyond-of (o .0) (v .0) (λ (k : v .0 ≤ o .0).
-      subst T (or-left (le d (squaredOffset l)) (eq d (squaredPark l)) e)
-      (says-le d (squaredOffset l) (v .0) (o .0) (v .1 .is) (o .1 .is) k)) in
-      let order : p .0 ≤ v .0 =
-      not-below (v .0) (p .0) (λ (k : v .0 < p .0).
-      subst T f (and-i (lt (squaredOffset l) d) (lt d (squaredPark l))
-      (says-lt (squaredOffset l) d (o .0) (v .0) (o .1 .is) (v .1 .is) beyond)
-      (says-lt d (squaredPark l) (v .0) (p .0) (v .1 .is) (p .1 .is) k))) in
-      let other : p .0 ≡ v .0 → ⊥ =
-      λ k. subst T (or-right (le d (squaredOffset l)) (eq d (squaredPark l)) e)
-      (subst T (sym (eq-is d (squaredPark l) (v .0) (p .0) (v .1 .is) (p .1 .is))) (eq→eqb (sym k))) in
-      is-true (lt (squaredPark l) d) (says-lt (squaredPark l) d (p .0) (v .0) (p .1 .is) (v .1 .is)
-      (apart-of (p .0) (v .0) order other))
+-- what is not above is below
+not-le-lt : (x y : Float) → T (not (isNan x)) → T (not (isNan y)) → le x y ≡ false → lt y x ≡ true
+not-le-lt x y p q e = go (lt y x) refl
+  where
+    go : (b : Bool) → lt y x ≡ b → lt y x ≡ true
+    go true h = h
+    go false h = absurd (subst T e (not-lt-le y x q p (subst (λ (c : Bool). T (not c)) (sym h) tt)))
+
+-- ---- the squared offset is not above the squared park distance
+-- a rounded number is not above a power of two that the exact one is not above
+rnd-under : (n d a : ℕ) → 0 < d → n ≤ 2 ^ a * d → rnd n d ≤ 2 ^ a
+rnd-under n d a D h =
+    le-trans (rnd-mono n d (2 ^ a * d) d D D (mul-le-mul-right d h))
+    (le-of-eq (rnd-fix (2 ^ a) d D (1, a, lit< tt, sym (one-mul (2 ^ a)))))
+
+module _ (l : Limits) (g : Given l) where
+  -- a length from 0 to 2 ^ 20, in units
+  length-units : (x : Float) → T (fits binary32 x) → T (zeroToBound x) → (u : ℕ) × Unit32 x u × (u ≤ 2 ^ 20 * L)
+  length-units x f h =
+      let w = zero-to-bound x h .1 in
+      let i = of-float x f (within-finite 20 x w) (and-l (le zero32 x) (le x bound) h) in
+      (i .0, i .1, within-units 20 x (i .0) (i .1 .is) w)
+
+  pub squares-ordered : T (le (squaredOffset l) (squaredPark l))
+  squares-ordered =
+      let o = length-units (l .offset) (g .offset-fits) (g .offset-in) in
+      let c = length-units (l .clearance) (g .clearance-fits) (g .clearance-in) in
+      let P = rnd (o .0 + c .0) 1 in
+      let small : P ≤ 2 ^ 170 =
+      rnd-under (o .0 + c .0) 1 170 (pow-pos 0) (le-trans (two (o .0) (c .0) (2 ^ 20 * L) (o .2) (c .2)) (lit≤ tt)) in
+      square-le (l .offset) (park l) (o .0) P (o .1 .is)
+      (add-is (l .offset) (l .clearance) (o .0) (c .0) (o .1 .is) (c .1 .is) (lt-of-le-of-lt small (lit< tt)))
+      (grows (o .0) (c .0) (o .1 .rep))
+      (lt-of-le-of-lt (rnd-under (P * P) L 191 (pow-pos 149) (le-trans (mul-le-mul small small) (lit≤ tt))) (lit< tt))
     where
-      beyond-of : (a b : ℕ) → (b ≤ a → ⊥) → a < b
-      beyond-of a b h = omega arith
+      two : (a b m : ℕ) → a ≤ m → b ≤ m → a + b ≤ m * 2
+      two a b m h k = omega arith
 
-      not-below : (a b : ℕ) → (a < b → ⊥) → b ≤ a
-      not-below a b h = omega arith
+-- ---- the threshold, from a first squared distance d above the squared offset
+module _ (l : Limits) (g : Given l) (d : Float) (s : Sound d) (apart : le d (squaredOffset l) ≡ false) where
+  offset-up : T (le zero32 (squaredOffset l))
+  offset-up = plus-up (squaredOffset l) (square-plus (l .offset) (within-finite 20 (l .offset) (offset-within l g)))
 
-      apart-of : (a b : ℕ) → a ≤ b → (a ≡ b → ⊥) → a < b
-      apart-of a b h n = omega arith
+  above-offset : T (lt (squaredOffset l) d)
+  above-offset =
+      subst T
+      (sym (not-le-lt d (squaredOffset l) (no-nan-le zero32 d (plus-up d (s .sign)) .1)
+      (no-nan-le zero32 (squaredOffset l) offset-up .1) apart)) tt
 
-  pub forward : Forward x₀ dx split l g (threshold l)
-  forward v s =
-      step-plus dx split l v (plain-plus l given (v .near .squared) (s .sound) (subst T (sym (s .apart)) tt))
+  above-zero : T (lt zero32 d)
+  above-zero = le-lt-trans zero32 (squaredOffset l) d offset-up above-offset
+
+  own : (v : ℕ) × Unit32 d v
+  own = of-float d (s .fit) (within-finite 60 d (s .bound)) (plus-up d (s .sign))
+
+  below : T (lt (nextDown d) d)
+  below = next-down-below d (own .0) (s .fit) (own .1) above-zero
+
+  -- what is an f32 below d is not above the f32 just below it
+  under : (x : Float) → T (lt (x ⊗ x) d) → T (le (x ⊗ x) (nextDown d))
+  under x h = next-down-greatest d (own .0) (s .fit) (own .1) above-zero (x ⊗ x) (mul-fits binary32 x x) h
+
+  pub over-offset : T (le (squaredOffset l) (thresholdFrom l d))
+  unfolding thresholdFrom
+  over-offset =
+      smaller-keeps (λ t. T (le (squaredOffset l) t)) (squaredPark l) (nextDown d) (squares-ordered l g)
+      (under (l .offset) above-offset)
+
+  -- by whether the f32 just below d is below the squared park distance
+  by-order : (P : Float → Type 0) → (T (lt (nextDown d) (squaredPark l)) → P (nextDown d))
+      → (T (le (squaredPark l) (nextDown d)) → P (squaredPark l)) → P (thresholdFrom l d)
+  unfolding thresholdFrom smaller
+  by-order P h k = go (lt (nextDown d) (squaredPark l)) refl
+    where
+      go : (b : Bool) → lt (nextDown d) (squaredPark l) ≡ b → P (cond b (nextDown d) (squaredPark l))
+      go true e = h (subst T (sym e) tt)
+      go false e =
+          k (not-lt-le (nextDown d) (squaredPark l) (no-nan-lt (nextDown d) d below .0)
+          (no-nan-le (squaredOffset l) (squaredPark l) (squares-ordered l g) .1)
+          (subst (λ (c : Bool). T (not c)) (sym e) tt))
+
+  pub under-park : T (le (thresholdFrom l d) (squaredPark l))
+  under-park =
+      by-order (λ t. T (le t (squaredPark l))) (lt-le (nextDown d) (squaredPark l))
+      (λ h. le-self (squaredPark l) (no-nan-le (squaredPark l) (nextDown d) h .0))
+
+  pub under-start : lt (thresholdFrom l d) d ≡ true
+  under-start =
+      is-true (lt (thresholdFrom l d) d)
+      (by-order (λ t. T (lt t d)) (λ h. below) (λ h. le-lt-trans (squaredPark l) (nextDown d) d h below))
+
+  -- where d is above the squared park distance, that is the threshold
+  pub at-park : lt (squaredPark l) d ≡ true → thresholdFrom l d ≡ squaredPark l
+  at-park e =
+      by-order (λ t. t ≡ squaredPark l)
+      (λ h. absurd (lt-not-le (nextDown d) (squaredPark l) h (under (park l) (subst T (sym e) tt)))) (λ h. refl)

@@ -1,9 +1,9 @@
 -- A loop that follows `walk`, turn by turn, over the law for loops with a cap: what a walk from the present visit tells
--- after the probes made (specs/SafeTime.antt), of any threshold. Assumes nothing.
+-- after the probes made (specs/SafeTime.antt), of any threshold; and what one that stands still tells. Assumes nothing.
 use mathlib.Core.Path.{_≡_, sym, ap, _∙_}
 use mathlib.Core.Bool.{Bool, true, false}
 use mathlib.Core.List.{List}
-use Prim.Native.Nat.{ℕ, suc, _+_}
+use Prim.Native.Nat.{ℕ, zero, suc, _+_}
 use native.Mathlib.Omega.{arith}
 use lib.ListN.{length}
 use lib.Ieee.{Float, lt}
@@ -62,3 +62,18 @@ module _ (x₀ dx : List (List Float)) (split : ℕ) (threshold : Float) (l : Li
           ∙ counted-probing n (next dx split l v)
           (walk x₀ dx split threshold l left (visit x₀ dx split (next dx split l v)))
           ∙ sym (ap (λ (u : Float). walkFrom left (n + 1, visit x₀ dx split u)) is)
+
+  -- a walk that stands still, at a probe above the threshold from which the step leads nowhere, makes every probe that is
+  -- left there, and ends there
+  pub rests : (left n : ℕ) (v : Visit) → v ≡ visit x₀ dx split (v .time) → next dx split l v ≡ v .time
+      → lt (l .«max_t») (v .time) ≡ false → above x₀ dx split threshold (v .time) ≡ true
+      → walkFrom left (n, v) ≡ record { ending = spent v; probes = n + left }
+  rests zero n v own stays p a =
+      let same : n ≡ n + 0 = omega arith in
+      spends n v (v .time) (sym stays) p ∙ (λ i. record { ending = spent v; probes = same i })
+  rests (suc left) n v own stays p a =
+      let same : n + 1 + left ≡ n + suc left = omega arith in
+      steps n v (v .time) (sym stays) p a left
+      ∙ ap (λ (u : Visit). walkFrom left (n + 1, u)) (sym own)
+      ∙ rests left (n + 1) v own stays p a
+      ∙ (λ i. record { ending = spent v; probes = same i })

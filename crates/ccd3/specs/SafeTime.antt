@@ -3,12 +3,12 @@
 -- directional step", "The walk", "The allowance", "Refusal numbers"); and what every answer promises
 -- (docs/GUARANTEES.md). Definitions only.
 use Prim.Native.Nat.{ℕ, zero, suc, _≤_}
-use mathlib.Core.{Path._≡_, Option.Option, Option.none, Option.some, List.List, List.[], List._∷_}
+use mathlib.Core.{Path._≡_, Logic._⊎_, Option.Option, Option.none, Option.some, List.List, List.[], List._∷_}
 use mathlib.Core.Bool.{Bool, true, false, cond, _&&_, _||_, not}
 use lib.{Dec.T, Dec.eqb, ListN.length}
 use lib.Ieee.{Float, binary32, lt, le, eq, isNan, ofBits}
 use Rattle.number.specs.Number.{_⊕_, _⊖_, _⊗_, _⊘_, zero32, half32, one32, largest32, size, smaller, larger, written}
-use Rattle.number.specs.Number.{nextUp, rootOf, Halved, halve}
+use Rattle.number.specs.Number.{nextUp, nextDown, rootOf, Halved, halve}
 use Rattle.geometry.specs.Geometry.{at, col, vec, minus, dot, moved, Cross, crossPairs}
 use Rattle.distance.specs.{declared.candidate.Nearest.Nearest, Distance.nearestOf}
 use Rattle.admission.specs.{declared.Limits.Limits, Admission.fullAllowance, Admission.walkRefusal}
@@ -203,12 +203,17 @@ module _ (x₀ dx : List (List Float)) (split : ℕ) (threshold : Float) where
       ]
 
 -- ---- the safe time
+abbrev pub squaredOffset : Limits → Float
+squaredOffset l = l .offset ⊗ l .offset
+
 abbrev pub squaredPark : Limits → Float
 squaredPark l = park l ⊗ park l
 
--- what the squared distance has to stay above
-abbrev pub threshold : Limits → Float
-threshold l = squaredPark l
+-- what the squared distance has to stay above, from the one at the start: the squared park distance, or the f32 just below
+-- the first where that is smaller
+unfoldable pub thresholdFrom : Limits → Float → Float
+unfolding nextDown
+thresholdFrom l first = smaller (squaredPark l) (nextDown first)
 
 -- an answer with no walk
 abbrev pub still : Answer → Walked
@@ -223,23 +228,18 @@ module _ (x₀ dx : List (List Float)) (split : ℕ) (l : Limits) where
   firstSquared = nearestOf split x₀ .squared
 
   abbrev pub touches : Bool
-  touches = le firstSquared (l .offset ⊗ l .offset) || eq firstSquared (squaredPark l)
+  touches = le firstSquared (squaredOffset l)
 
-  abbrev pub between : Bool
-  between = lt (l .offset ⊗ l .offset) firstSquared && lt firstSquared (squaredPark l)
-
-  -- the refusal's number with so many probes allowed, 0 for none
-  unfoldable pub safeRefusal : ℕ → ℕ
-  unfolding firstSquared
-  safeRefusal allowed = elim (walkRefusal x₀ dx split l allowed) [ zero ↦ cond between 3 0 | suc n ↦ suc n ]
+  abbrev pub threshold : Float
+  threshold = thresholdFrom l firstSquared
 
   -- of any numbers, with so many probes allowed
   unfoldable pub safeWalk : ℕ → Walked
-  unfolding firstSquared safeRefusal walk
-  safeWalk allowed = elim (safeRefusal allowed) [
+  unfolding firstSquared thresholdFrom walk
+  safeWalk allowed = elim (walkRefusal x₀ dx split l allowed) [
     | zero ↦ elim touches [
       | true ↦ still (Touching zero32)
-      | false ↦ walk x₀ dx split (threshold l) l allowed (start x₀ dx split)
+      | false ↦ walk x₀ dx split threshold l allowed (start x₀ dx split)
     ]
     | suc n ↦ still (Refused (suc n))
   ]
@@ -274,7 +274,7 @@ pub record Stopped (isFar : Float → Bool) (l : Limits) (t : Float) : Type 0 wh
 module _ (x₀ dx : List (List Float)) (split : ℕ) (l : Limits) (allowed : ℕ) where
   -- whether the computed squared distance at a time exceeds the threshold
   abbrev pub isFar : Float → Bool
-  isFar t = above x₀ dx split (threshold l) t
+  isFar t = above x₀ dx split (threshold x₀ dx split l) t
 
   -- the times that the definition's walk probes
   abbrev pub probed : List Float
@@ -290,14 +290,20 @@ module _ (x₀ dx : List (List Float)) (split : ℕ) (l : Limits) (allowed : ℕ
   -- clear: it exceeded it at the start and at every probe made
   pub record Passed (t : Float) : Type 0 where
     pub is-limit : t ≡ written (l .«max_t»)
-    pub start-far : lt (threshold l) (firstSquared x₀ dx split l) ≡ true
+    pub start-far : lt (threshold x₀ dx split l) (firstSquared x₀ dx split l) ≡ true
     pub probes-far : Every (λ (u : Float). isFar u ≡ true) probed
 
+  -- a walk's threshold: not below the squared offset, nor above the squared park distance
+  pub record Placed : Type 0 where
+    pub over-offset : T (le (squaredOffset l) (threshold x₀ dx split l))
+    pub under-park : T (le (threshold x₀ dx split l) (squaredPark l))
+
   -- the numbers of an answer; kinds are 0 touching, 1 contact, 2 clear, 3 budget, 4 refused. A refused call has no time
-  -- and zero counts; any other, an allowance in its range. Touching: at the start it is at most the squared offset, or
-  -- just the squared park distance. Budget: it exceeds the threshold at the time, and every probe allowed was made.
+  -- and zero counts; any other, an allowance in its range. Touching: at the start it is at most the squared offset.
+  -- Budget: it exceeds the threshold at the time, and every probe allowed was made. After contact and budget it exceeds
+  -- the squared offset at the time. From a start above the squared park distance the walk is the one over that distance.
   pub record Promised (refusal kind : ℕ) (time : Float) (probes halvings : ℕ) : Type 0 where
-    pub number : refusal ≡ safeRefusal x₀ dx split l allowed
+    pub number : refusal ≡ walkRefusal x₀ dx split l allowed
     pub probes-counted : probes ≡ length probed
     pub halvings-counted : halvings ≡ safeWalk x₀ dx split l allowed .ending .halvings
     pub few-probes : probes ≤ allowed
@@ -311,6 +317,10 @@ module _ (x₀ dx : List (List Float)) (split : ℕ) (l : Limits) (allowed : ℕ
     pub contact : kind ≡ 1 → Stopped isFar l time
     pub clear : kind ≡ 2 → Passed time
     pub budget : kind ≡ 3 → (isFar time ≡ true) × (probes ≡ allowed)
+    pub placed : refusal ≡ 0 → (kind ≡ 0 → ⊥) → Placed
+    pub off : (kind ≡ 1) ⊎ (kind ≡ 3) → lt (squaredOffset l) (squaredAt x₀ dx split time) ≡ true
+    pub above-park : refusal ≡ 0 → lt (squaredPark l) (firstSquared x₀ dx split l) ≡ true
+        → safeWalk x₀ dx split l allowed ≡ walk x₀ dx split (squaredPark l) l allowed (start x₀ dx split)
 
 -- of an answer as the library gives it
 abbrev pub Promises : List (List Float) → List (List Float) → ℕ → Limits → ℕ → SafeTime → Type 0

@@ -13,13 +13,15 @@ use admission::FULL_ALLOWANCE;
 use admission::Limits;
 use admission::admit_walk;
 use distance::nearest::nearest;
+use number::order::next_down;
+use number::order::smaller;
 
-// What the squared distance has to stay above.
-fn threshold(l: Limits) -> f32
-    ensures { λ r. ⌜ r ≡ Def.threshold l ⌝ }
+// What the squared distance has to stay above, from the one at the start.
+fn threshold(l: Limits, first: f32) -> f32
+    ensures { λ r. ⌜ r ≡ Def.thresholdFrom l first ⌝ }
 {
     let park = l.offset + l.clearance;
-    park * park
+    smaller(park * park, next_down(first))
 }
 
 // An answer with no walk.
@@ -42,16 +44,18 @@ fn admitted(
     ensures { λ r. ⌜ r ≡ Inner.countedFrom 0 (Def.safeWalk x0 dx split l allowance) ⌝ }
 {
     let first = nearest(x0, split);
-    let squared_offset = l.offset * l.offset;
-    let park = l.offset + l.clearance;
-    let squared_park = park * park;
-    if (squared_offset < first.squared) & (first.squared < squared_park) {
-        return still(Answer::Refused(3));
-    }
-    if (first.squared <= squared_offset) | (first.squared == squared_park) {
+    if first.squared <= l.offset * l.offset {
         return still(Answer::Touching(0.0));
     }
-    walk(x0, dx, split, threshold(l), l, allowance, first)
+    walk(
+        x0,
+        dx,
+        split,
+        threshold(l, first.squared),
+        l,
+        allowance,
+        first,
+    )
 }
 
 // The whole record of a call: how it ends, and how many of the probes allowed it makes.

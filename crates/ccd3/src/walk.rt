@@ -4,6 +4,7 @@ ghost use mathlib.Core.Path.{_≡_};
 ghost use Rattle.number.specs.Number.{zero32};
 ghost use Rattle.ccd3.specs.SafeTime as Def;
 ghost use Rattle.ccd3.specs.Inner as Inner;
+ghost use Rattle.ccd3.specs.declared.Answer.the-variants.{Budget};
 use crate::Answer;
 use crate::Counted;
 use crate::Ending;
@@ -14,6 +15,7 @@ use distance::candidate::Nearest;
 use distance::nearest::nearest;
 use geometry::mat3x4_array_of_cols::add_scaled;
 use number::order::written;
+use number::pattern::bits_of;
 
 // An ending with no bracket, at a visit of this time.
 pub(crate) fn unbracketed(answer: Answer, time: f32) -> Ending
@@ -26,6 +28,17 @@ pub(crate) fn unbracketed(answer: Answer, time: f32) -> Ending
         lower: 0.0,
         upper: 0.0,
         halvings: 0,
+    }
+}
+
+// No probe is left.
+fn spent(time: f32, allowance: u32) -> Counted
+    ensures { λ r. ⌜ r ≡ record { ending = Def.unbracketed (Budget time) time; probes = allowance } ⌝ }
+{
+    let budget = unbracketed(Answer::Budget(time), time);
+    Counted {
+        ending: budget,
+        probes: allowance,
     }
 }
 
@@ -52,7 +65,8 @@ fn met(
     }
 }
 
-// Steps and probes, from time 0 where the distance rules say `first`, until one of the three ends.
+// Steps and probes, from time 0 where the distance rules say `first`, until one of the three ends. A step from a probe
+// that leads nowhere would be taken again from there as often as is allowed, so the budget is answered at once.
 pub(crate) fn walk(
     x0: [[f32; 3]; 4],
     dx: [[f32; 3]; 4],
@@ -79,11 +93,10 @@ pub(crate) fn walk(
             };
         }
         if probes == allowance {
-            let budget = unbracketed(Answer::Budget(time), time);
-            return Counted {
-                ending: budget,
-                probes,
-            };
+            return spent(time, allowance);
+        }
+        if (0 < probes) & (bits_of(next) == bits_of(time)) {
+            return spent(time, allowance);
         }
         probes += 1;
         x = add_scaled(x0, dx, next);

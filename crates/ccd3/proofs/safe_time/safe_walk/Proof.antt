@@ -2,7 +2,7 @@
 use mathlib.Core.Path.{sym, ap, _∙_}
 use borrow.Author.Needs.{needs}
 use Rattle.ccd3.specs.Inner.{countedFrom}
-use Rattle.ccd3.proofs.StartLaws.{number-admission, safe-refused}
+use Rattle.ccd3.proofs.StartLaws.{safe-refused}
 use Rattle.ccd3.proofs.safe_time.safe_walk.Statement.{statement}
 use Rattle.ccd3.proofs.safe_time.safe_walk.Tie as tie
 
@@ -17,11 +17,10 @@ returns-2 : tie.Need-returns-2
 returns-2 c =
     let admission = c .before .before in
     let a = admission .before .args in
-    let other = c .before .if1 .left in
-    let number = number-admission (a .x0) (a .dx) (a .split) (a .limits) (a .allowance) (admission .admit-walk .result)
-    (sym (admission .admit-walk .ensures)) other in
     c .still .ensures
-    ∙ ap (countedFrom 0) (sym (safe-refused (a .x0) (a .dx) (a .split) (a .limits) (a .allowance) _ number other))
+    ∙ ap (countedFrom 0)
+    (sym (safe-refused (a .x0) (a .dx) (a .split) (a .limits) (a .allowance) (admission .admit-walk .result)
+    (sym (admission .admit-walk .ensures)) (c .before .if1 .left)))
 
 pub safe-walk-spec : {M : Type 1} → statement M
 safe-walk-spec =
