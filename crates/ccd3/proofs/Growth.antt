@@ -10,12 +10,12 @@ use lib.Ieee.Fits.{add-fits, mul-fits, div-fits}
 use lib.Ieee.Bits.{ofBits-fits}
 use lib.Ieee.Scale.{finite}
 use Rattle.number.specs.Number.{_⊕_, _⊖_, _⊗_, _⊘_, zero32, one32, largest32, smaller, larger, rootOf}
-use Rattle.number.proofs.Choice.{pick, larger-keeps, smaller-keeps}
+use Rattle.number.proofs.Choice.{larger-keeps, smaller-keeps}
 use Rattle.number.proofs.Comparing.{not-lt-le}
 use Rattle.number.proofs.Later.{later-any, earlier}
 use Rattle.number.proofs.NoNan.{no-nan-lt, no-nan-le}
 use Rattle.number.proofs.Signs.{quotient-up}
-use Rattle.number.proofs.Transitive.{lt-not-le, le-le-trans}
+use Rattle.number.proofs.Transitive.{le-le-trans}
 use Rattle.number.proofs.Units.{plus}
 use Rattle.number.proofs.Within.{Within}
 use Rattle.geometry.specs.Geometry.{Cross, crossPairs}

@@ -4,7 +4,7 @@
 -- (docs/GUARANTEES.md). Definitions only.
 use Prim.Native.Nat.{ℕ, zero, suc, _≤_}
 use mathlib.Core.{Path._≡_, Logic._⊎_, Option.Option, Option.none, Option.some, List.List, List.[], List._∷_}
-use mathlib.Core.Bool.{Bool, true, false, cond, _&&_, _||_, not}
+use mathlib.Core.Bool.{Bool, true, false, cond, _&&_, not}
 use lib.{Dec.T, Dec.eqb, ListN.length}
 use lib.Ieee.{Float, binary32, lt, le, eq, isNan, ofBits}
 use Rattle.number.specs.Number.{_⊕_, _⊖_, _⊗_, _⊘_, zero32, half32, one32, largest32, size, smaller, larger, written}

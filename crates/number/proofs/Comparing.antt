@@ -1,7 +1,7 @@
 -- The order of f32 values: comparisons as tests and as facts, infinities and either zero included. Assumes nothing.
-use mathlib.Core.Path.{_≡_, refl, sym}
+use mathlib.Core.Path.{_≡_, sym}
 use mathlib.Core.Logic.{_⊎_, inl, inr}
-use mathlib.Core.Bool.{Bool, true, false, not, _&&_, _||_, true≢false}
+use mathlib.Core.Bool.{Bool, true, false, not, _&&_, _||_}
 use Prim.Native.Nat.{ℕ, _+_, _*_, _≤_}
 use native.Mathlib.Nat.{eq-or-lt-of-le, eq-zero-or-pos}
 use native.Mathlib.Omega.{arith}
@@ -23,15 +23,7 @@ pub or-cases : (a b : Bool) → T (a || b) → T a ⊎ T b
 or-cases true b t = inl tt
 or-cases false b t = inr t
 
--- the parts of a disjunction that fails, of a conjunction that holds
-pub or-left : (a b : Bool) → (a || b) ≡ false → a ≡ false
-or-left true b e = absurd (true≢false e)
-or-left false b e = refl
-
-pub or-right : (a b : Bool) → (a || b) ≡ false → b ≡ false
-or-right true b e = absurd (true≢false e)
-or-right false b e = e
-
+-- the parts of a conjunction that holds
 pub all-three : (a b c : Bool) → T (a && b && c) → T a × T b × T c
 all-three a b c h = let ab = and-l (a && b) c h in (and-l a b ab, and-r a b ab, and-r (a && b) c h)
 

@@ -10,7 +10,7 @@ use lib.Ieee.Bits.{is-true, ofBits-fits}
 use lib.Ieee.Exact.{HasValue}
 use lib.Ieee.Scale.{finite}
 use Rattle.number.specs.Number.{zero32, nextUp, nextDown, infBits}
-use Rattle.number.proofs.Units.{L, Is, finite-is, Unit32, plus, of-float}
+use Rattle.number.proofs.Units.{L, finite-is, Unit32, plus, of-float}
 use Rattle.number.proofs.Patterns.{val, bits-plus, bits-are, bits-back}
 use Rattle.number.proofs.NoNan.{no-nan-lt}
 use Rattle.number.proofs.Neighbours.{bits-lt, some-bits}
@@ -30,56 +30,54 @@ module _ (x : Float) (u : ℕ) (f : T (fits binary32 x)) (i : Unit32 x u) (a : T
   abbrev b : ℕ
   b = toBits binary32 x
 
-  small : b < infBits
-  small = bits-lt x u f (above-plus zero32 x zero-plus a) i
-
   some : 0 < b
   some = some-bits x f a
 
-  abbrev y : Float
-  y = ofBits binary32 (b - 1)
+  small : b < infBits
+  small = bits-lt x u f (above-plus zero32 x zero-plus a) i
 
   under : b - 1 < infBits
   under = let s = small in omega arith
 
-  y-plus : T (plus y)
-  y-plus = value-plus y (val (b - 1)) (bits-plus (b - 1) under)
-
-  y-bits : suc (toBits binary32 y) ≡ b
-  y-bits = let s = some in ap suc (bits-back (b - 1) under) ∙ omega arith
-
-  y-finite : T (finite y)
-  y-finite = finite-is y (val (b - 1)) (bits-are (b - 1) under)
-
-  y-units : (v : ℕ) × Unit32 y v
-  y-units = of-float y (ofBits-fits binary32 (b - 1)) y-finite (plus-up y y-plus)
-
-  is-y : nextDown x ≡ y
+  down-is : nextDown x ≡ ofBits binary32 (b - 1)
   unfolding nextDown
-  is-y = ap (λ (c : Bool). cond c y x) (is-true (lt zero32 x) a)
+  down-is = ap (λ (c : Bool). cond c (ofBits binary32 (b - 1)) x) (is-true (lt zero32 x) a)
 
-  -- the next up from y is x
-  up-is : nextUp y ≡ x
-  up-is = sym (next-of y x y-finite y-plus f (sym y-bits))
+  -- what holds of the number with the pattern before
+  by-bits : (P : Float → Type 0) → P (ofBits binary32 (b - 1)) → P (nextDown x)
+  by-bits P h = subst P (sym down-is) h
 
-  fits-down : T (fits binary32 (nextDown x))
-  fits-down = subst (λ (z : Float). T (fits binary32 z)) (sym is-y) (ofBits-fits binary32 (b - 1))
+  down-fits : T (fits binary32 (nextDown x))
+  down-fits = by-bits (λ y. T (fits binary32 y)) (ofBits-fits binary32 (b - 1))
 
-  in-order : suc (toBits binary32 y) < infBits
-  in-order = let s = small in let e = y-bits in omega arith
+  down-plus : T (plus (nextDown x))
+  down-plus = by-bits (λ y. T (plus y)) (value-plus (ofBits binary32 (b - 1)) (val (b - 1)) (bits-plus (b - 1) under))
+
+  down-finite : T (finite (nextDown x))
+  down-finite = by-bits (λ y. T (finite y)) (finite-is (ofBits binary32 (b - 1)) (val (b - 1)) (bits-are (b - 1) under))
+
+  down-bits : suc (toBits binary32 (nextDown x)) ≡ b
+  down-bits =
+      let s = some in
+      by-bits (λ y. suc (toBits binary32 y) ≡ b) (ap suc (bits-back (b - 1) under) ∙ omega arith)
+
+  down-units : (v : ℕ) × Unit32 (nextDown x) v
+  down-units = of-float (nextDown x) down-fits down-finite (plus-up (nextDown x) down-plus)
 
   pub next-up-down : nextUp (nextDown x) ≡ x
-  next-up-down = ap nextUp is-y ∙ up-is
+  next-up-down = sym (next-of (nextDown x) x down-finite down-plus f (sym down-bits))
+
+  in-order : suc (toBits binary32 (nextDown x)) < infBits
+  in-order = let s = small in let e = down-bits in omega arith
 
   pub next-down-below : T (lt (nextDown x) x)
   next-down-below =
-      subst (λ (z : Float). T (lt z x)) (sym is-y)
-      (subst (λ (z : Float). T (lt y z)) up-is
-      (next-up-above y (y-units .0) (ofBits-fits binary32 (b - 1)) y-plus (y-units .1) in-order))
+      subst (λ (z : Float). T (lt (nextDown x) z)) next-up-down
+      (next-up-above (nextDown x) (down-units .0) down-fits down-plus (down-units .1) in-order)
 
   pub next-down-greatest : (w : Float) → T (fits binary32 w) → T (lt w x) → T (le w (nextDown x))
   next-down-greatest w g l =
-      subst (λ (z : Float). T (le w z)) (sym is-y)
-      (not-lt-le y w (no-nan-lt y x (subst (λ (z : Float). T (lt z x)) is-y next-down-below) .0) (no-nan-lt w x l .0)
-      (not-T (lt y w) (λ h. next-up-least y (y-units .0) (ofBits-fits binary32 (b - 1)) y-plus (y-units .1) in-order w g h
-      (subst (λ (z : Float). T (lt w z)) (sym up-is) l))))
+      not-lt-le (nextDown x) w (no-nan-lt (nextDown x) x next-down-below .0) (no-nan-lt w x l .0)
+      (not-T (lt (nextDown x) w) (λ h.
+      next-up-least (nextDown x) (down-units .0) down-fits down-plus (down-units .1) in-order w g h
+      (subst (λ (z : Float). T (lt w z)) (sym next-up-down) l)))

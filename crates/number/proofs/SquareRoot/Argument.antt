@@ -2,11 +2,10 @@
 -- elsewhere, and the number of 24 digits whose root is taken, of a normal and of a subnormal argument.
 -- Assumes nothing.
 use mathlib.Core.Path.{_≡_, refl, sym, ap, _∙_, subst}
-use mathlib.Core.Logic.{inl, inr}
 use mathlib.Core.Bool.{Bool, true, false, cond, _&&_, true≢false}
 use Prim.Native.Nat.{ℕ, suc, _+_, _-_, _*_, _/_, _%_, _^_, _≤_, _<_}
-use native.Mathlib.Nat.{le-trans, le-of-eq, le-of-lt, le-refl, lt-of-lt-of-le, lt-of-not-le, lt-irrefl}
-use native.Mathlib.Nat.{eq-zero-or-pos, mul-assoc, mul-one, mul-le-mul-right}
+use native.Mathlib.Nat.{le-trans, le-of-eq, lt-of-lt-of-le, lt-of-not-le, lt-irrefl}
+use native.Mathlib.Nat.{mul-assoc, mul-one, mul-le-mul-right}
 use native.Mathlib.Omega.{arith}
 use lib.Dec.{T, ltb→lt}
 use lib.Pow.{pow-add, pow-mono, shl-lt, shl-exact}
@@ -14,7 +13,7 @@ use lib.Count.{leadingZeros, leading-top}
 use lib.Ieee.{Float, nan, inf, fin, binary32, up, down, lt, fits, ofBits, toBits}
 use lib.Ieee.Bits.{ofBits-toBits}
 use Rattle.number.specs.Number.{zero32, isFinite, infBits, unitsOf, rootAtLeast, last, rootOf}
-use Rattle.number.proofs.Units.{L, Is, shift, fin-false}
+use Rattle.number.proofs.Units.{L, Is}
 use Rattle.number.proofs.Patterns.{val, weight, bits-are}
 use Rattle.number.proofs.Neighbours.{above-bits}
 use Rattle.number.proofs.SquareRoot.Nearest.{units-bits}

@@ -14,7 +14,6 @@ use Rattle.admission.proofs.Admitted.{walk-admits}
 use Rattle.pair.specs.Points.{normOf}
 use Rattle.pair.proofs.NormBounds.{norm-upward}
 use Rattle.ccd3.specs.declared.SafeTime.{SafeTime}
-use Rattle.ccd3.proofs.StartLaws.{number-none}
 use Rattle.own_time.specs.OwnTime.{ownLimits, OwnPromises, OwnSpeed}
 use Rattle.own_time.proofs.own_safe_time.Statement.{statement}
 use Rattle.own_time.proofs.own_safe_time.Tie as tie
@@ -25,8 +24,7 @@ module _ (x₀ dx : List (List Float)) (split : ℕ) (offset clearance maxT : Fl
       → OwnSpeed x₀ dx split offset clearance maxT s
   own-speed s p z =
       let l = ownLimits x₀ dx split offset clearance maxT in
-      let n = number-none x₀ dx split l fullAllowance (sym (p .number) ∙ z) in
-      let w = walk-admits x₀ dx split l fullAllowance (n .0) .0 in
+      let w = walk-admits x₀ dx split l fullAllowance (sym (p .number) ∙ z) .0 in
       let up = norm-upward dx split (w .displacements) f in
       up .not-below (subst T (up .told) (and-l (le leastSpeed (normOf dx split)) _ (w .u-max)))
 
