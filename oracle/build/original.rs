@@ -1,6 +1,7 @@
 //! Cuts the functions in scope out of the original's text, unedited, into files that `src/original.rs` includes; and
-//! the safe time once more, with the number of probes allowed in place of its constant. The original's folder is the
-//! environment variable URTEMVAL_RUST, or else where the project keeps it beside itself.
+//! the safe time twice more: with the number of probes allowed in place of its constant, and so with its hint put in
+//! force (the hinted text). The original's folder is the environment variable URTEMVAL_RUST, or else where the project
+//! keeps it beside itself.
 
 use std::path::{Path, PathBuf};
 use std::{env, fs};
@@ -57,6 +58,12 @@ const ALLOWING: [(&str, &str); 2] = [
     ("    const MAX_PROBES: usize = 4096;\n", "    #[allow(non_snake_case)]\n    let MAX_PROBES = allowance;\n"),
 ];
 
+/// The hint of the safe time, which its text has as a comment: the threshold is below the first squared distance.
+const HINT: (&str, &str) = (
+    "    let park_squared = park * park; //.min(sqdist.next_down());\n",
+    "    let park_squared = (park * park).min(sqdist.next_down());\n",
+);
+
 pub fn cut(out: &Path) {
     println!("cargo:rerun-if-env-changed=URTEMVAL_RUST");
     let folder = match env::var_os("URTEMVAL_RUST") {
@@ -71,7 +78,8 @@ pub fn cut(out: &Path) {
         fs::write(out.join(format!("{name}.rs")), cut.join("\n")).expect("OUT_DIR can be written");
         if items.contains(&SAFE_TIME) {
             let allowing = ALLOWING.iter().fold(item(&text, SAFE_TIME, name), replaced);
-            fs::write(out.join("allowing.rs"), allowing).expect("OUT_DIR can be written");
+            fs::write(out.join("allowing.rs"), &allowing).expect("OUT_DIR can be written");
+            fs::write(out.join("hinted.rs"), replaced(allowing, &HINT)).expect("OUT_DIR can be written");
         }
     }
 }

@@ -8,8 +8,7 @@ use crate::judge::{Entry, Relation};
 use crate::model::{missing, SLOWEST};
 use crate::words::Words;
 
-/// The same bit for bit, but for the sign of a zero time or root, the counts of a touching pair, a linear root at t
-/// below 1 and a norm from 2^-60 up.
+/// The same bit for bit, but for the sign of a zero time or root, a linear root at t below 1 and a norm from 2^-60 up.
 pub fn answered(call: &Call, expected: &Words, original: &Words) -> Relation {
     if call.function == Function::MaxRelativeNorm {
         return norms(call, expected, original);
@@ -20,15 +19,13 @@ pub fn answered(call: &Call, expected: &Words, original: &Words) -> Relation {
     let zeros = |i: usize| signs_free.contains(&i) && expected.number(i) == 0.0 && original.number(i) == 0.0;
     let differing: Vec<usize> = (0..ours.len()).filter(|&i| ours[i] != theirs[i]).collect();
     if call.function.is_safe_time() {
-        let [kind, halvings] = ["kind", "halvings"].map(|name| call.function.answer(name).at);
-        let touching = ours[kind] == 0;
-        // the original names no kind but a contact, and halves once where the pair starts at park squared
+        let kind = call.function.answer("kind").at;
+        // the original names no kind but a contact
         let others: Vec<usize> = differing.iter().copied().filter(|&i| i != kind).collect();
         let contact_told = (ours[kind] == 1) == (theirs[kind] == 1);
         return match others[..] {
             [] if contact_told => Relation::Same,
             [time] if contact_told && zeros(time) => Relation::Listed(Entry::PlusZero),
-            [count] if count == halvings && touching && theirs[count] == 1 => Relation::Listed(Entry::TouchingCount),
             _ => Relation::Unlisted,
         };
     }

@@ -7,17 +7,21 @@ use std::time::Duration;
 use crate::calls::Call;
 use crate::examples::EXAMPLES;
 use crate::judge::{judged, Relation, ENTRIES};
-use crate::sides::{by_original, Outcome};
-use crate::words::hex;
+use crate::sides::{as_it_stands, by_original, Outcome};
+use crate::words::{hex, Words};
 
 /// How long the original may take, in tenths of a second.
 const PATIENCE: u32 = 30;
 
 /// Prints the original's answer.
 pub fn original(text: &str) {
-    match by_original(&Call::from_text(text)) {
-        Outcome::Answered(words) => println!("{}", hex(words.as_slice())),
-        Outcome::Stopped => println!("stops"),
+    let call = Call::from_text(text);
+    let said = |words: Option<Words>| words.map_or("stops".to_string(), |words| hex(words.as_slice()));
+    match by_original(&call) {
+        Outcome::Answered(words) => println!("{}", said(Some(words))),
+        Outcome::Hinted(words) => println!("{}; the hinted text {}", said(as_it_stands(&call)), said(Some(words))),
+        Outcome::Stopped => println!("{}", said(None)),
+        Outcome::Parted => println!("differs from the hinted text"),
     }
 }
 

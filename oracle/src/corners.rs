@@ -2,8 +2,9 @@
 //! words in hex. Every comparison begins with them; the expected answers are held to the rules and to the original.
 
 use crate::allowance_corners;
+use crate::band_corners;
 use crate::calls::Call;
-use crate::judge::{judged, Relation};
+use crate::judge::judged;
 use crate::model::Rules;
 use crate::norm_corners;
 use crate::sides::by_model;
@@ -107,7 +108,7 @@ const CORNERS: [Corner; 23] = [
 
 /// All of them.
 fn all() -> impl Iterator<Item = &'static Corner> {
-    CORNERS.iter().chain(&norm_corners::CORNERS).chain(&allowance_corners::CORNERS)
+    CORNERS.iter().chain(&norm_corners::CORNERS).chain(&allowance_corners::CORNERS).chain(&band_corners::CORNERS)
 }
 
 /// The calls, for a run to begin with.
@@ -138,7 +139,7 @@ pub fn hold() -> bool {
     let holds = |corner: &Corner| {
         let this = judged(Call::from_text(corner.call));
         let found = hex(this.expected.as_slice());
-        let right = found == corner.answer && this.relation != Relation::Unlisted;
+        let right = found == corner.answer && this.relation.explained();
         if !right {
             println!(
                 "CORNER: {}: {} is listed, the rules give {found} ({:?})",

@@ -84,9 +84,30 @@ named! {
         NewtonFlat: "Newton: slope 0, value not 0",
         NewtonNoSlope: "Newton: value 0 and slope 0",
         CoplanarAbove: "coplanar: a computed coefficient above 2^20",
-        StartInside: "walk: starts at or below offset squared",
-        StartInBand: "walk: starts above offset squared, below park squared",
-        StartAtPark: "walk: starts at park squared",
+        StartInside: "walk: starts below offset squared",
+        StartAtOffset: "walk: starts exactly at offset squared",
+        ThresholdBelowFirst: "walk: in the band, the threshold is the f32 just below the first squared distance",
+        ThresholdPark: "walk: above park squared, the threshold is park squared",
+        ThresholdBoth: "walk: one f32 above park squared, the threshold is both",
+        AboveDipContact: "in the band, above dip: contact",
+        AboveDipClear: "in the band, above dip: clear",
+        AboveDipBudget: "in the band, above dip: budget",
+        AtDipContact: "in the band, exactly at dip: contact",
+        AtDipClear: "in the band, exactly at dip: clear",
+        AtDipBudget: "in the band, exactly at dip: budget",
+        BelowDipContact: "in the band, below dip: contact",
+        BelowDipClear: "in the band, below dip: clear",
+        BelowDipBudget: "in the band, below dip: budget",
+        DipLeft: "in the band, at or below dip: budget at a time above 0",
+        AtParkContact: "in the band, exactly at park squared: contact",
+        AtParkClear: "in the band, exactly at park squared: clear",
+        AtParkBudget: "in the band, exactly at park squared: budget",
+        LowestContact: "in the band, one f32 above offset squared: contact",
+        LowestClear: "in the band, one f32 above offset squared: clear",
+        LowestBudget: "in the band, one f32 above offset squared: budget",
+        NoBandContact: "above park squared, one f32 above offset squared: contact",
+        NoBandClear: "above park squared, one f32 above offset squared: clear",
+        NoBandBudget: "above park squared, one f32 above offset squared: budget",
         PlainOnly: "step: the plain one passes the limit, the directional is not tried",
         DirectionStopped: "step: a cross pair ends the directional loops with 0",
         DirectionNone: "step: no cross pair comes nearer",
@@ -95,19 +116,21 @@ named! {
         DirectionInfinite: "step: an infinite quotient, dropped",
         DirectionTaken: "step: the directional one is longer",
         PlainTaken: "step: the plain one is as long or longer",
+        PlainBelowZero: "step: the plain one is below zero, the directional is taken",
         StepNoMove: "step: too small to move the time",
         ClearAtOnce: "walk: clear with no probe",
         ClearLater: "walk: clear after probes",
         ClearLast: "walk: clear after 4,096 probes",
         BudgetMoved: "walk: budget, the time still moving",
         BudgetStuck: "walk: budget, the time not moving",
+        BudgetStuckLater: "walk: budget, the time not moving, above 0",
         ContactAtZero: "walk: contact at time 0",
         ContactFirst: "walk: contact found by the first probe",
         ContactLater: "walk: contact found by a later probe",
         ContactLast: "walk: contact found by probe 4,096",
         HalvingsFew: "halving: one halving",
         HalvingsMany: "halving: more than 100 halvings",
-        HalvingExact: "halving: a midpoint at exactly park squared",
+        HalvingExact: "halving: a midpoint at exactly the threshold",
         AllowanceOne: "allowance: a walk with 1 probe allowed",
         AllowanceTwo: "allowance: a walk with 2",
         AllowanceThree: "allowance: a walk with 3",
@@ -124,18 +147,40 @@ named! {
     }
 }
 
+/// A set of branches, one bit each.
+#[derive(Clone, Copy)]
+pub struct Branches([u64; 4]);
+
+impl Branches {
+    const NONE: Branches = Branches([0; 4]);
+
+    fn with(mut self, branch: Branch) -> Branches {
+        self.0[branch as usize / 64] |= 1 << (branch as usize % 64);
+        self
+    }
+
+    pub fn has(&self, branch: Branch) -> bool {
+        self.has_place(branch as usize)
+    }
+
+    /// Whether it has the branch at a place of `NAMES`.
+    pub fn has_place(&self, place: usize) -> bool {
+        self.0[place / 64] >> (place % 64) & 1 == 1
+    }
+}
+
+const _: () = assert!(NAMES.len() <= 256);
+
 thread_local! {
-    static MET: Cell<u128> = const { Cell::new(0) };
+    static MET: Cell<Branches> = const { Cell::new(Branches::NONE) };
 }
 
 /// Notes a branch.
 pub fn met(branch: Branch) {
-    MET.with(|m| m.set(m.get() | 1 << branch as u32));
+    MET.with(|m| m.set(m.get().with(branch)));
 }
 
-/// The branches noted since the last call of this, one bit each.
-pub fn taken() -> u128 {
-    MET.with(|m| m.replace(0))
+/// The branches noted since the last call of this.
+pub fn taken() -> Branches {
+    MET.with(|m| m.replace(Branches::NONE))
 }
-
-const _: () = assert!(NAMES.len() <= 128);

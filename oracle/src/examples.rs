@@ -28,6 +28,11 @@ pub const EXAMPLES: &[(Entry, &str)] = &[
         "maximum_safe_time_accurate 0 0 0 0 0 0 0 0 3f800000 0 0 3f800000 0 0 0 0 0 0 0 0 0 0 0 0 \
          2 0 40000000 3f800000 3f800000",
     ),
+    (
+        Entry::Band,
+        "maximum_safe_time_accurate 0 0 0 0 0 0 0 0 3f800000 0 0 3f800000 0 0 0 0 0 0 0 0 0 0 0 0 \
+         2 0 3f800000 3f800000 3f800000",
+    ),
     (Entry::BothZero, "cubic_roots_in_range_zero_to_t 0 34000000 0 0 1 0"),
     (Entry::BothZero, "cubic_roots_in_range_zero_to_t 0 0 0 3f800000 1 0"),
     (Entry::BothZero, "cubic_roots_in_range_zero_to_t bb213e3f 3d5ff2e6 becf5c2a 3f800000 3f800000 0"),
@@ -53,11 +58,6 @@ pub const EXAMPLES: &[(Entry, &str)] = &[
     ),
     (Entry::PlusZero, "cubic_roots_in_range_zero_to_t 0 3f800000 0 0 3f800000 0"),
     (Entry::PlusZero, "square_root 80000000"),
-    (
-        Entry::TouchingCount,
-        "maximum_safe_time_accurate 0 0 0 0 0 0 0 0 3f800000 0 0 3f800000 0 0 0 0 0 0 0 0 0 0 0 0 \
-         2 0 3f800000 3f800000 3f800000",
-    ),
     (Entry::NormUpward, "max_relative_norm 3f800000 0 0 0 0 0 0 0 0 0 0 0 2"),
     (Entry::NormUpward, "max_relative_norm 3f800000 3f800000 0 0 0 0 0 0 0 0 0 0 2"),
 ];

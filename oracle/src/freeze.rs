@@ -37,7 +37,7 @@ fn shows(judged: &Judged) -> impl Iterator<Item = (usize, u32)> {
     };
     let outside = only_outside(&judged.call);
     let place = outside.map(|(place, way)| (places + (function * MOST + place) * WAYS.len() + way, OF_EACH_PLACE));
-    let met = (0..refusals).filter(move |i| branches >> i & 1 == 1).map(|i| (i, OF_EACH));
+    let met = (0..refusals).filter(move |&i| branches.has_place(i)).map(|i| (i, OF_EACH));
     met.chain([(refusal, OF_EACH)]).chain(entry).chain(place)
 }
 

@@ -3,7 +3,7 @@
 
 use crate::answered::answered;
 use crate::calls::Call;
-use crate::cover::{self, Branch};
+use crate::cover::{self, Branch, Branches};
 use crate::model::Rules;
 use crate::named::named;
 use crate::refusals::refusal_of;
@@ -26,7 +26,6 @@ named! {
         Endless: "endless",
         Infinity: "infinity",
         PlusZero: "plus-zero",
-        TouchingCount: "touching-count",
         NormUpward: "norm-upward",
     }
 }
@@ -37,6 +36,15 @@ pub enum Relation {
     Same,
     Listed(Entry),
     Unlisted,
+    /// The original's texts differ where they have to be one.
+    Parted,
+}
+
+impl Relation {
+    /// Whether the rules' answer is the original's, or an entry says why not.
+    pub fn explained(self) -> bool {
+        matches!(self, Relation::Same | Relation::Listed(_))
+    }
 }
 
 /// A call with all that its answer is held to.
@@ -44,7 +52,7 @@ pub struct Judged {
     pub call: Call,
     pub expected: Words,
     pub relation: Relation,
-    pub branches: u128,
+    pub branches: Branches,
 }
 
 impl Judged {
@@ -60,12 +68,13 @@ pub fn judged(call: Call) -> Judged {
     let expected = by_model(&Rules::DOCUMENT, &call);
     assert_eq!(expected.count(), call.function.answers(), "the answer of {}", call.function.name());
     let branches = cover::taken();
-    let endless = branches >> Branch::ScaleExactlyEight as u32 & 1 == 1;
+    let endless = branches.has(Branch::ScaleExactlyEight);
     let relation = match refusal_of(&expected) {
         1 => Relation::Listed(Entry::NotFinite),
         2 => Relation::Listed(Entry::Limits),
         5 if endless => Relation::Listed(Entry::Infinity),
         _ if endless => Relation::Listed(Entry::Endless),
+        0 if call.function.is_safe_time() => safe_time(&call, &expected, branches),
         refusal => relation(&call, refusal, &expected, &by_original(&call)),
     };
     Judged { call, expected, relation, branches }
@@ -77,15 +86,14 @@ fn relation(call: &Call, refusal: u32, expected: &Words, original: &Outcome) -> 
             let from = call.function.answer(from).at;
             (from..words.as_slice().len()).any(|i| test(words.number(i)))
         }
-        Outcome::Stopped => false,
+        _ => false,
     };
     let stopped = matches!(original, Outcome::Stopped);
     match refusal {
         0 => match original {
             Outcome::Answered(words) => answered(call, expected, words),
-            Outcome::Stopped => Relation::Unlisted,
+            _ => Relation::Unlisted,
         },
-        3 if stopped => Relation::Listed(Entry::Band),
         4 => match original {
             Outcome::Answered(words) if words.as_slice() == expected.as_slice() => Relation::Same,
             _ => Relation::Unlisted,
@@ -96,6 +104,19 @@ fn relation(call: &Call, refusal: u32, expected: &Words, original: &Outcome) -> 
         // after the NaN of one span, another span may still stop it
         8 if stopped || has(f32::is_nan, "roots") => Relation::Listed(Entry::NoSlope),
         9 if stopped => Relation::Listed(Entry::LeadingZero),
+        _ => Relation::Unlisted,
+    }
+}
+
+/// A safe time: in the band the hinted text's alone, elsewhere that of the text as it stands, too.
+fn safe_time(call: &Call, expected: &Words, branches: Branches) -> Relation {
+    match (by_original(call), branches.has(Branch::ThresholdBelowFirst)) {
+        (Outcome::Answered(words), false) => answered(call, expected, &words),
+        (Outcome::Hinted(words), true) => match answered(call, expected, &words) {
+            Relation::Same => Relation::Listed(Entry::Band),
+            other => other,
+        },
+        (Outcome::Parted, _) => Relation::Parted,
         _ => Relation::Unlisted,
     }
 }

@@ -4,6 +4,7 @@
 mod allowance_corners;
 mod answered;
 mod ask;
+mod band_corners;
 mod bounds;
 mod calls;
 mod compare;
@@ -77,7 +78,7 @@ fn main() -> ExitCode {
         ["faults", seed] => seed.parse().map_or_else(|_| usage(), faults::test),
         ["freeze", folder] => freeze::freeze(Path::new(folder), true),
         ["frozen", folder] => freeze::freeze(Path::new(folder), false),
-        ["ask", call @ ..] => ask::ask(&call.join(" ")) != judge::Relation::Unlisted,
+        ["ask", call @ ..] => ask::ask(&call.join(" ")).explained(),
         ["differences"] => ask::differences(),
         ["scenes", rest @ ..] => match rest.iter().position(|&word| word == "--") {
             Some(files) if files + 1 < rest.len() => scenes::test(&args[1..=files], &args[files + 2..]),

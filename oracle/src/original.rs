@@ -1,9 +1,9 @@
 //! The original: functions of del-geo-core in scope, compiled from its own text as it stands (`build/original.rs` cuts
 //! them out; no line of them is in this project). What is written here is only what that text needs from elsewhere.
-#![allow(dead_code, unused_imports, clippy::all)]
+#![allow(dead_code, unused_imports, unstable_name_collisions, clippy::all)]
 
-/// The Debian package's num-traits can lack `Float::clamp`, which later versions have. Where the trait has it, that one
-/// is taken, since a bound's own method goes before this one.
+/// What an older Debian lacks and later versions have: its num-traits `Float::clamp`, its Rust `f32::next_down`. Where
+/// they are there they are taken, since a bound's own method and a type's own go before these.
 mod supplied {
     pub trait Clamp: num_traits::Float {
         fn clamp(self, low: Self, high: Self) -> Self {
@@ -11,6 +11,22 @@ mod supplied {
         }
     }
     impl<T: num_traits::Float> Clamp for T {}
+
+    pub trait NextDown {
+        fn next_down(self) -> Self;
+    }
+    impl NextDown for f32 {
+        fn next_down(self) -> f32 {
+            let bits = self.to_bits();
+            if self.is_nan() || self == f32::NEG_INFINITY {
+                self
+            } else if self == 0.0 {
+                f32::from_bits(0x8000_0001)
+            } else {
+                f32::from_bits(if self > 0.0 { bits - 1 } else { bits + 1 })
+            }
+        }
+    }
 }
 
 /// What only functions out of scope call.
@@ -44,5 +60,13 @@ pub mod ccd3 {
     pub mod allowing {
         use super::{directional_advance, SquareDistance};
         include!(concat!(env!("OUT_DIR"), "/allowing.rs"));
+    }
+
+    /// The hinted text: the same with the original's hint in force, by which the threshold is below the first squared
+    /// distance.
+    pub mod hinted {
+        use super::{directional_advance, SquareDistance};
+        use crate::supplied::NextDown;
+        include!(concat!(env!("OUT_DIR"), "/hinted.rs"));
     }
 }

@@ -13,7 +13,6 @@ pub fn refusal_of(answer: &Words) -> u32 {
 /// The refusals that each function can give, besides an answer.
 pub fn refusals(function: Function) -> &'static [u32] {
     match function {
-        Function::MaximumSafeTimeAccurate | Function::MaximumSafeTimeAllowing => &[1, 2, 3],
         Function::NormalizeCenterizedConfiguration => &[1, 2, 4, 5],
         Function::QuadraticRoot => &[1, 2, 9],
         Function::CubicRootsInRangeZeroToT => &[1, 2, 6, 7, 8],
@@ -24,6 +23,8 @@ pub fn refusals(function: Function) -> &'static [u32] {
         | Function::Centerize
         | Function::ScaleInPlace
         | Function::SquaredDistance
-        | Function::MaxRelativeNorm => &[1, 2],
+        | Function::MaxRelativeNorm
+        | Function::MaximumSafeTimeAccurate
+        | Function::MaximumSafeTimeAllowing => &[1, 2],
     }
 }

@@ -2,7 +2,7 @@
 //! the differences that no entry has.
 
 use crate::calls::Call;
-use crate::cover;
+use crate::cover::{self, Branch};
 use crate::differences::Differences;
 use crate::functions::{Function, FUNCTIONS, MOST};
 use crate::judge::{Judged, Relation, ENTRIES};
@@ -46,7 +46,7 @@ impl Tally {
             self.most_halvings = self.most_halvings.max(judged.word("halvings"));
         }
         for (i, count) in self.branches.iter_mut().enumerate() {
-            *count += (judged.branches >> i & 1) as u64;
+            *count += u64::from(judged.branches.has_place(i));
         }
         if let Some((place, way)) = only_outside(&judged.call) {
             self.outside[judged.call.function as usize][place][way] += 1;
@@ -55,6 +55,7 @@ impl Tally {
             Relation::Same => {}
             Relation::Listed(entry) => self.entries[entry as usize] += 1,
             Relation::Unlisted => self.differs(judged, "the rule and the original differ, and no entry says why"),
+            Relation::Parted => self.differs(judged, "the original's text as it stands and the hinted text differ"),
         }
     }
 
@@ -112,6 +113,9 @@ impl Tally {
         }
         let kinds: Vec<String> = KINDS.iter().zip(&self.kinds).map(|(name, n)| format!("{name}: {n}")).collect();
         println!("safe times, {}; most halvings: {}", kinds.join(", "), self.most_halvings);
+        let walks = |branch: Branch| self.branches[branch as usize];
+        let (above, band) = (walks(Branch::ThresholdPark), walks(Branch::ThresholdBelowFirst));
+        println!("walks held to the original's text as it stands: {above}; to the hinted text alone: {band}");
         let least = FUNCTIONS.iter().flat_map(|&function| self.outside_of(function)).map(|(_, _, count)| count).min();
         println!("each argument alone NaN, infinite, below and above its range: {} times or more", least.unwrap_or(0));
         println!("branches met, in calls:");

@@ -30,7 +30,7 @@ impl Measured {
 fn by_the_original(call: &Call) -> f32 {
     match by_original(call) {
         Outcome::Answered(words) => words.number(Function::MaxRelativeNorm.answer("norm").at),
-        Outcome::Stopped => panic!("the original stops: {}", call.hex()),
+        _ => panic!("the original stops: {}", call.hex()),
     }
 }
 

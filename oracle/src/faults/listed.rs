@@ -4,9 +4,11 @@ use super::norms;
 use crate::bounds::Bound;
 use crate::calls::Call;
 use crate::functions::Function;
+use crate::generate::neighbour;
 use crate::laws::Law;
-use crate::model::{Linear, Points, Rules, FULL_ALLOWANCE, SLOWEST};
+use crate::model::{Kind, Linear, Points, Rules, FULL_ALLOWANCE, SLOWEST};
 use crate::refusals::refusal_of;
+use crate::sides::{in_band, REFUSED};
 use crate::words::Words;
 
 /// A rule that is changed, or answers that are changed after it.
@@ -22,10 +24,25 @@ pub struct Fault {
 
 pub const NONE: Fault = Fault { name: "none", rules: Rules::DOCUMENT, distort: |_, _| {}, laws: &[], bounds: &[] };
 
-pub const FAULTS: [Fault; 31] = [
+pub const FAULTS: [Fault; 38] = [
     Fault { name: "interior-of-edges-left-out", rules: Rules { left_out: [Some(4), None], ..Rules::DOCUMENT }, ..NONE },
     Fault { name: "edge-of-face-left-out", rules: Rules { left_out: [None, Some(2)], ..Rules::DOCUMENT }, ..NONE },
     Fault { name: "last-of-equals", rules: Rules { last_of_equals: true, ..Rules::DOCUMENT }, ..NONE },
+    Fault { name: "touching-at-park", rules: Rules { touching_at_park: true, ..Rules::DOCUMENT }, ..NONE },
+    Fault {
+        name: "threshold-of-the-first",
+        rules: Rules { threshold: |first, park_squared| park_squared.min(first), ..Rules::DOCUMENT },
+        ..NONE
+    },
+    Fault {
+        name: "threshold-just-below-park",
+        rules: Rules { threshold: |_, park_squared| neighbour(park_squared, -1), ..Rules::DOCUMENT },
+        ..NONE
+    },
+    Fault { name: "step-by-threshold", rules: Rules { step_by_threshold: true, ..Rules::DOCUMENT }, ..NONE },
+    Fault { name: "plain-step-below-zero", rules: Rules { plain_below_zero: true, ..Rules::DOCUMENT }, ..NONE },
+    Fault { name: "band-refused", distort: band_refused, ..NONE },
+    Fault { name: "stuck-after-one-probe", distort: stuck_after_one, ..NONE },
     Fault { name: "slack-halved", rules: Rules { round_slack: 1.0 / 8_388_608.0, ..Rules::DOCUMENT }, ..NONE },
     Fault { name: "slack-left-out", rules: Rules { coordinate_slack: 0.0, ..Rules::DOCUMENT }, ..NONE },
     Fault { name: "one-probe-more", rules: Rules { probes: |allowance| allowance + 1, ..Rules::DOCUMENT }, ..NONE },
@@ -100,6 +117,21 @@ fn one_halving_fewer(call: &Call, answer: &mut Words) {
     if call.function.is_safe_time() {
         let place = call.function.answer("halvings").at;
         answer.set(place, answer.as_slice()[place].saturating_sub(1));
+    }
+}
+
+/// Refuses a start in the band by 3.
+fn band_refused(call: &Call, answer: &mut Words) {
+    if call.function.is_safe_time() && refusal_of(answer) == 0 && in_band(call) {
+        *answer = Words::new().word(3).word(REFUSED).word(0).word(0).word(0);
+    }
+}
+
+/// Counts one probe where the time has not left 0.
+fn stuck_after_one(call: &Call, answer: &mut Words) {
+    let word = |name| answer.as_slice()[call.function.answer(name).at];
+    if call.function.is_safe_time() && word("kind") == Kind::Budget as u32 && word("time") == 0 {
+        answer.set(call.function.answer("probes").at, 1);
     }
 }
 

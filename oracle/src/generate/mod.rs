@@ -2,6 +2,7 @@
 //! three of the functions that are called seldom, with something that is not allowed.
 
 mod arguments;
+mod band;
 mod hard;
 mod norms;
 mod numbers;

@@ -41,7 +41,7 @@ const MOTIONS: [&str; 1] = [
 ];
 
 /// Twelve coordinates, twelve displacements, the split, offset, clearance, max_t and u_max.
-pub const SAFE_TIMES: [&str; 9] = [
+pub const SAFE_TIMES: [&str; 16] = [
     // slow approach of edges: contact at the last probe; clear after it
     "0 0 0 35000000 0 0 0 b5000000 34b12c66 0 35000000 34b12c66 0 0 0 0 0 0 0 0 b5312c66 0 0 b5312c66 \
      2 0 3352c274 3f800000 3a8c8b93",
@@ -65,4 +65,21 @@ pub const SAFE_TIMES: [&str; 9] = [
      0 0 0 0 0 0 0 0 0 0 0 be800000 3 3d75c28f 3a83126f 3f800000 3e800000",
     "ab800000 0 0 2b800000 0 0 0 ab800000 2c000000 0 2b800000 2c000000 \
      0 0 0 0 0 0 0 0 ac800000 0 0 ac800000 2 0 2a800000 3f800000 2c800000",
+    // exactly at dip where coordinates are coarse: contact; clear
+    "49000000 49000001 0 49000001 49000002 0 48fffffe 49000003 0 48fffffe 49000003 0 \
+     0 0 0 0 0 0 3e800000 be800000 0 3e800000 be800000 0 2 3d800000 3d5413cc 3f800000 3f000000",
+    "49000000 49000001 0 49000001 49000002 0 48fffffe 49000003 0 48fffffe 49000003 0 \
+     0 0 0 0 0 0 bd800000 3d800000 0 bd800000 3d800000 0 2 0 3e3504f3 3f800000 3e000000",
+    // one f32 above offset squared, in the band: clear; budget
+    "0 0 0 3f800000 0 0 0 0 3fc00000 3f800000 0 3fc00000 0 0 0 0 0 0 3f800000 0 0 3f800000 0 0 \
+     2 3fbfffff 33c00000 35000000 3f800000",
+    "0 0 0 3f800000 0 0 0 0 3fc00000 3f800000 0 3fc00000 0 0 0 0 0 0 3f800000 0 0 3f800000 0 0 \
+     2 3fbfffff 33c00000 3f800000 3f800000",
+    // one f32 above offset squared, with no band: contact; clear; budget
+    "0 0 0 3f800000 0 0 0 0 3fc00000 3f800000 0 3fc00000 0 0 0 0 0 0 0 0 bf800000 0 0 bf800000 \
+     2 3fbfffff 0 3f800000 3f800000",
+    "0 0 0 3f800000 0 0 0 0 3fc00000 3f800000 0 3fc00000 0 0 0 0 0 0 3f800000 0 0 3f800000 0 0 \
+     2 3fbfffff 0 35000000 3f800000",
+    "0 0 0 3f800000 0 0 0 0 3fc00000 3f800000 0 3fc00000 0 0 0 0 0 0 3f800000 0 0 3f800000 0 0 \
+     2 3fbfffff 0 3f800000 3f800000",
 ];

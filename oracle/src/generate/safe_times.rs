@@ -1,5 +1,5 @@
 //! Calls of the safe time: a pair of one of the families with limits of the size of its own distance, pairs whose
-//! nearest candidate changes at a tiny time, and the rare ones.
+//! nearest candidate changes at a tiny time, pairs with limits for the band, and the rare ones.
 
 use super::numbers::{neighbour, Source};
 use super::rare;
@@ -11,6 +11,12 @@ impl Source {
         match self.below(2048) {
             0 | 1 => Words::from_hex(self.pick(&rare::SAFE_TIMES)),
             2..=17 => self.appearing(),
+            18..=140 => {
+                let motion = self.motion_for_band(split);
+                let [offset, clearance] = self.limits_for_band(&motion.x, split);
+                let (max_t, u_max) = (self.time(), self.speed(&motion.dx, split));
+                call(&motion.x, &motion.dx, split, Limits { offset, clearance, max_t, u_max })
+            }
             _ => {
                 let motion = self.motion(split);
                 let limits = self.limits(&motion.x, &motion.dx, split);

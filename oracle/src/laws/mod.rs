@@ -78,7 +78,7 @@ impl Run {
     fn ask_original(&mut self, member: &Member) {
         match by_original(&member.call) {
             Outcome::Answered(words) => self.original.hold(member, &words),
-            Outcome::Stopped => self.original.differences.add(|| format!("the original stops: {}", member.call.hex())),
+            _ => self.original.differences.add(|| format!("the original stops: {}", member.call.hex())),
         }
     }
 }

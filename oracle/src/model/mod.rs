@@ -4,9 +4,12 @@
 
 mod admission;
 mod distance;
+mod halving;
 mod norm;
 mod pair;
 mod roots;
+mod start;
+mod step;
 mod walk;
 
 pub type Point = [f32; 3];
@@ -43,6 +46,15 @@ pub struct Rules {
     pub left_out: [Option<usize>; 2],
     /// Whether a later candidate equal to the smallest is taken.
     pub last_of_equals: bool,
+    /// Whether a pair is touching at park squared, too.
+    pub touching_at_park: bool,
+    /// The threshold, by the first squared distance and park squared: park squared, or the f32 just below the first
+    /// where that is smaller.
+    pub threshold: fn(f32, f32) -> f32,
+    /// Whether park in the directional step is the root of the threshold where the pair starts in the band.
+    pub step_by_threshold: bool,
+    /// Whether a plain step below zero is taken.
+    pub plain_below_zero: bool,
     /// The slack of rounding in the directional step, 2^-22.
     pub round_slack: f32,
     /// The slack of coordinates in the directional step, 6.2e-7.
@@ -74,6 +86,10 @@ impl Rules {
     pub const DOCUMENT: Rules = Rules {
         left_out: [None, None],
         last_of_equals: false,
+        touching_at_park: false,
+        threshold: |first, park_squared| smaller(park_squared, start::just_below(first)),
+        step_by_threshold: false,
+        plain_below_zero: false,
         round_slack: 1.0 / 4_194_304.0,
         coordinate_slack: 6.2e-7,
         probes: |allowance| allowance,
@@ -115,6 +131,15 @@ impl Rules {
 /// The larger, the first of equals.
 fn larger(a: f32, b: f32) -> f32 {
     if a < b {
+        b
+    } else {
+        a
+    }
+}
+
+/// The smaller, the first of equals.
+fn smaller(a: f32, b: f32) -> f32 {
+    if b < a {
         b
     } else {
         a

@@ -1,8 +1,8 @@
 //! The safe time (docs/01-scope.md, "The walk", "The allowance").
 
-use super::distance::{dot, minus};
 use super::pair::moved;
-use super::{admission::Admission, larger, plus_zero, Distance, Points, Refusal, Rules, FULL_ALLOWANCE};
+use super::start::Start;
+use super::{admission::Admission, plus_zero, Distance, Points, Refusal, Rules, FULL_ALLOWANCE};
 use crate::cover::{met, Branch};
 
 /// What travels together beside the pair.
@@ -31,15 +31,15 @@ pub struct SafeTime {
 }
 
 /// A pair in motion and the distances that bound it.
-struct Walk<'a> {
-    rules: &'a Rules,
-    x0: &'a Points,
-    dx: &'a Points,
-    split: u32,
-    max_t: f32,
-    park: f32,
-    dip: f32,
-    threshold: f32,
+pub struct Walk<'a> {
+    pub rules: &'a Rules,
+    pub x0: &'a Points,
+    pub dx: &'a Points,
+    pub split: u32,
+    pub max_t: f32,
+    pub park: f32,
+    pub dip: f32,
+    pub threshold: f32,
     allowance: u32,
 }
 
@@ -61,26 +61,18 @@ impl Rules {
             met(Branch::AllowanceAfterOne);
         }
         numbers.split(split).done().and(allowed)?;
-        let park = offset + clearance;
-        let dip = offset + clearance * 0.5;
-        let threshold = park * park;
         let first = self.distance(x0, split);
-        let touching = SafeTime { kind: Kind::Touching, time: 0.0, probes: 0, halvings: 0 };
-        if first.squared <= offset * offset {
-            met(Branch::StartInside);
-            Ok(touching)
-        } else if first.squared == threshold {
-            met(Branch::StartAtPark);
-            Ok(touching)
-        } else if first.squared < threshold {
-            met(Branch::StartInBand);
-            Err(3)
-        } else {
-            if let Some(given) = given {
-                met(branch_of(given));
-            }
-            Ok(Walk { rules: self, x0, dx, split, max_t, park, dip, threshold, allowance }.from(first, u_max))
+        let start = Start::new(self, first.squared, offset, clearance);
+        if start.touches(self) {
+            return Ok(SafeTime { kind: Kind::Touching, time: 0.0, probes: 0, halvings: 0 });
         }
+        if let Some(given) = given {
+            met(branch_of(given));
+        }
+        let (park, dip, threshold) = (start.step_park(self), start.dip, start.threshold(self));
+        let end = Walk { rules: self, x0, dx, split, max_t, park, dip, threshold, allowance }.from(first, u_max);
+        start.note_end(&end);
+        Ok(end)
     }
 }
 
@@ -108,6 +100,9 @@ impl Walk<'_> {
             }
             if probes == (self.rules.probes)(self.allowance) {
                 met(if moving { Branch::BudgetMoved } else { Branch::BudgetStuck });
+                if !moving && toi > 0.0 {
+                    met(Branch::BudgetStuckLater);
+                }
                 let short = if self.allowance == 4095 { Branch::AllowanceOneShort } else { Branch::AllowanceBudget };
                 self.last_allowed(probes, short);
                 return SafeTime { kind: Kind::Budget, time: toi, probes, halvings: 0 };
@@ -128,7 +123,7 @@ impl Walk<'_> {
     }
 
     /// Notes the branch of an end after the last probe allowed, where fewer than 4,096 are.
-    fn last_allowed(&self, probes: u32, branch: Branch) {
+    pub fn last_allowed(&self, probes: u32, branch: Branch) {
         if probes == self.allowance && self.allowance < FULL_ALLOWANCE {
             met(branch);
         }
@@ -145,102 +140,5 @@ impl Walk<'_> {
             met(Branch::MinusZeroTime);
         }
         SafeTime { kind: Kind::Clear, time: plus_zero(self.max_t), probes, halvings: 0 }
-    }
-
-    /// The plain step, or the directional one where that is tried and longer.
-    fn step(&self, x: &Points, at: Distance, toi: f32, inverse: f32) -> f32 {
-        let root = self.rules.root(at.squared);
-        let plain = (root - self.dip) * inverse;
-        if toi + plain > self.max_t {
-            met(Branch::PlainOnly);
-            return plain;
-        }
-        let directional = self.directional(x, at, root * (1.0 + 1.0 / 4_194_304.0));
-        if plain < directional {
-            met(Branch::DirectionTaken);
-            directional
-        } else {
-            met(Branch::PlainTaken);
-            plain
-        }
-    }
-
-    fn directional(&self, x: &Points, at: Distance, w_norm: f32) -> f32 {
-        let w = at.direction;
-        let sizes = |v: [f32; 3]| v.map(f32::abs);
-        let split = self.split as usize;
-        let mut least = f32::MAX;
-        for i in 0..split {
-            for j in split..4 {
-                let gap = minus(x[j], x[i]);
-                let rel = minus(self.dx[i], self.dx[j]);
-                let reach = dot(sizes(w), sizes(gap)) + self.max_t * dot(sizes(w), sizes(rel)) + self.park * w_norm;
-                let err = self.rules.round_slack * reach + self.rules.coordinate_slack * w_norm;
-                let projected = dot(w, gap) - err;
-                if projected <= self.dip * w_norm {
-                    met(Branch::DirectionStopped);
-                    return 0.0;
-                }
-                let rate = dot(w, rel);
-                if rate > 0.0 {
-                    let free = larger(projected - self.park * w_norm, 0.0);
-                    let quotient = free / rate;
-                    if free == 0.0 {
-                        met(Branch::DirectionHeld);
-                    }
-                    if quotient.is_infinite() {
-                        met(Branch::DirectionInfinite);
-                    }
-                    if quotient < least {
-                        least = quotient;
-                    }
-                } else {
-                    met(Branch::DirectionReceding);
-                }
-            }
-        }
-        if least == f32::MAX {
-            met(Branch::DirectionNone);
-        }
-        least
-    }
-
-    /// Halves between the last time above the threshold and one that is not, until the computed window repeats.
-    fn contact(&self, last_above: f32, first_below: f32, probes: u32) -> SafeTime {
-        let (mut lower, mut upper) = (last_above, first_below);
-        let mut halvings = 0;
-        loop {
-            let window = upper - lower;
-            let middle = 0.5 * (upper + lower);
-            halvings += 1;
-            let squared = self.rules.distance(&moved(self.x0, self.dx, middle), self.split).squared;
-            if squared > self.threshold {
-                lower = middle;
-            } else {
-                if squared == self.threshold {
-                    met(Branch::HalvingExact);
-                }
-                upper = middle;
-            }
-            if upper - lower == window || upper - lower < self.rules.least_window {
-                break;
-            }
-        }
-        met(match probes {
-            1 => Branch::ContactFirst,
-            FULL_ALLOWANCE => Branch::ContactLast,
-            _ => Branch::ContactLater,
-        });
-        self.last_allowed(probes, Branch::AllowanceContact);
-        if lower == 0.0 {
-            met(Branch::ContactAtZero);
-        }
-        if halvings == 1 {
-            met(Branch::HalvingsFew);
-        }
-        if halvings > 100 {
-            met(Branch::HalvingsMany);
-        }
-        SafeTime { kind: Kind::Contact, time: plus_zero(lower), probes, halvings }
     }
 }

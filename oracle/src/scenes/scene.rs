@@ -2,7 +2,7 @@
 
 use crate::calls::Call;
 use crate::functions::Function;
-use crate::judge::{judged, Judged, Relation};
+use crate::judge::{judged, Judged};
 use crate::model::Point;
 use crate::refusals::refusal_of;
 use crate::sides::KINDS;
@@ -81,7 +81,7 @@ impl Scene {
 /// The call judged: the rules' answer is the original's, or an entry says why it is not.
 fn listed(call: Call) -> Judged {
     let asked = judged(call);
-    assert!(asked.relation != Relation::Unlisted, "the rule and the original differ: {}", asked.call.hex());
+    assert!(asked.relation.explained(), "the rule and the original differ: {}", asked.call.hex());
     asked
 }
 

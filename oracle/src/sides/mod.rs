@@ -2,13 +2,15 @@
 
 mod model;
 mod original;
+mod texts;
 
 pub use self::model::by_model;
 pub use self::original::{by_original, guard, Outcome};
+pub use self::texts::as_it_stands;
 
 use crate::calls::Call;
 use crate::functions::Function;
-use crate::model::Limits;
+use crate::model::{Limits, Rules};
 
 /// What stands for the kinds of a safe time in the stream.
 pub const KINDS: [&str; 5] = ["touching", "contact", "clear", "budget", "refused"];
@@ -23,4 +25,13 @@ pub fn limits_of(call: &Call) -> Limits {
 pub fn allowance_of(call: &Call) -> Option<u32> {
     let says = call.function == Function::MaximumSafeTimeAllowing;
     says.then(|| call.word("allowance"))
+}
+
+/// Whether a safe time starts in the band: its first squared distance is above offset squared and not above park
+/// squared.
+pub fn in_band(call: &Call) -> bool {
+    let Limits { offset, clearance, .. } = limits_of(call);
+    let park = offset + clearance;
+    let first = Rules::DOCUMENT.distance(&call.points("x0"), call.word("split")).squared;
+    offset * offset < first && first <= park * park
 }

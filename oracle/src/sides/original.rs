@@ -3,40 +3,24 @@
 use std::cell::Cell;
 use std::panic::{catch_unwind, AssertUnwindSafe};
 
-use original::ccd3::{self, SquareDistance};
+use original::ccd3;
 
-use super::limits_of;
+use super::texts;
 use crate::calls::Call;
 use crate::functions::Function;
-use crate::model::{Kind, Limits, Points, Rules, FULL_ALLOWANCE};
+use crate::model::Rules;
 use crate::words::Words;
 
 /// What the original did.
 pub enum Outcome {
+    /// It answered. The answer of a safe time is that of each of its texts.
     Answered(Words),
+    /// The hinted text answered, from a start in the band.
+    Hinted(Words),
     /// It stopped by an assertion.
     Stopped,
-}
-
-/// The distance rules as the original's trait asks for them. It counts how often the original asks: with a direction
-/// once at the start and once a probe, without one once a halving and twice at the end.
-struct Rule {
-    split: u32,
-    with_direction: Cell<u32>,
-    without: Cell<u32>,
-}
-
-impl SquareDistance<f32> for Rule {
-    fn eval_with_dir(&self, x: &Points) -> (f32, [f32; 3]) {
-        self.with_direction.set(self.with_direction.get() + 1);
-        let found = Rules::DOCUMENT.distance(x, self.split);
-        (found.squared, found.direction)
-    }
-
-    fn eval(&self, x: &Points) -> f32 {
-        self.without.set(self.without.get() + 1);
-        Rules::DOCUMENT.distance(x, self.split).squared
-    }
+    /// Its text as it stands and the hinted text differ, from a start outside of the band.
+    Parted,
 }
 
 thread_local! {
@@ -54,10 +38,19 @@ pub fn guard() {
 
 /// The original's answer. The caller has seen to it that the scaling ends.
 pub fn by_original(call: &Call) -> Outcome {
+    if call.function.is_safe_time() {
+        texts::safe_time(call)
+    } else {
+        guarded(|| original_words(call)).map_or(Outcome::Stopped, Outcome::Answered)
+    }
+}
+
+/// What the original answers, where no assertion of it stops it.
+pub fn guarded(answer: impl FnOnce() -> Words) -> Option<Words> {
     GUARDED.with(|guarded| guarded.set(true));
-    let answer = catch_unwind(AssertUnwindSafe(|| original_words(call)));
+    let answer = catch_unwind(AssertUnwindSafe(answer));
     GUARDED.with(|guarded| guarded.set(false));
-    answer.map_or(Outcome::Stopped, Outcome::Answered)
+    answer.ok()
 }
 
 fn original_words(call: &Call) -> Words {
@@ -110,37 +103,6 @@ fn original_words(call: &Call) -> Words {
             with_roots(&polynomial::cubic_roots_in_range_zero_to_t(c0, c1, c2, c3, t, number("epsilon")))
         }
         Function::CoplanarTimeMat3x4 => with_roots(&ccd3::coplanar_time_mat3x4(&points("x0"), &points("dx"))),
-        Function::MaximumSafeTimeAccurate => as_it_stands(call),
-        Function::MaximumSafeTimeAllowing => allowing(call, call.word("allowance")),
+        Function::MaximumSafeTimeAccurate | Function::MaximumSafeTimeAllowing => unreachable!("it has texts"),
     }
-}
-
-/// The safe time as it stands, with its constant of 4,096 probes.
-fn as_it_stands(call: &Call) -> Words {
-    counted(call, |rule, x0, dx, Limits { offset, clearance, max_t, u_max }| match rule.split {
-        2 => ccd3::maximum_safe_time_accurate::<_, 2>(x0, dx, u_max, rule, offset, clearance, max_t),
-        _ => ccd3::maximum_safe_time_accurate::<_, 3>(x0, dx, u_max, rule, offset, clearance, max_t),
-    })
-}
-
-/// The safe time with its constant set. Set to 4,096 it has to answer what it answers as it stands.
-fn allowing(call: &Call, allowance: u32) -> Words {
-    let n = allowance as usize;
-    let words = counted(call, |rule, x0, dx, Limits { offset, clearance, max_t, u_max }| match rule.split {
-        2 => ccd3::allowing::maximum_safe_time_accurate::<_, 2>(x0, dx, u_max, rule, offset, clearance, max_t, n),
-        _ => ccd3::allowing::maximum_safe_time_accurate::<_, 3>(x0, dx, u_max, rule, offset, clearance, max_t, n),
-    });
-    if allowance == FULL_ALLOWANCE {
-        assert_eq!(words.as_slice(), as_it_stands(call).as_slice(), "4,096 probes allowed");
-    }
-    words
-}
-
-/// The time with the counts. Of the kinds the original tells only a contact, by its halvings.
-fn counted(call: &Call, time: impl Fn(&Rule, &Points, &Points, Limits) -> f32) -> Words {
-    let rule = Rule { split: call.word("split"), with_direction: Cell::new(0), without: Cell::new(0) };
-    let time = time(&rule, &call.points("x0"), &call.points("dx"), limits_of(call));
-    let (probes, halvings) = (rule.with_direction.get() - 1, rule.without.get().saturating_sub(2));
-    let kind = if halvings > 0 { Kind::Contact } else { Kind::Clear };
-    Words::new().word(0).word(kind as u32).numbers(&[time]).word(probes).word(halvings)
 }
