@@ -33,12 +33,13 @@
  *   or a second question from the moved points with what is left of the move. Budgets come where steps are short: u_max
  *   is far above the pair's own speed, or the clearance is tiny beside the way that the pair makes near park. After
  *   urtemval_safe_time_allowing with a small allowance, ask again with a larger one: the time does not fall.
+ * - budget at 0: most often the pair starts at dip or nearer, where steps are zero. It cannot move, not even apart, and
+ *   asking again answers the same. Ask with a smaller clearance for this pair: at most half of its distance less the
+ *   offset keeps the start beyond park, rounding aside, and what is promised is promised with that park.
  * - touching: the time is 0 and stays 0. Part the pair by other means, or leave it out and answer for it yourself.
  * - refused by 1: a point, a displacement or a limit is NaN or infinite. Mend what made it, and do not move by it.
  * - refused by 2: the split is neither 2 nor 3, or a number is outside its range. Coordinates beyond 2^20: centre the
  *   pair, or take larger units. u_max below 2^-60: step 3 has the maximum. An allowance is 1 to 4096.
- * - refused by 3: the pair starts between the offset and park. Ask again with a smaller clearance, half of what its
- *   distance exceeds the offset by, or take it as touching.
  * - refused by 4 or 5: see step 2; points and displacements are as they were.
  * - refused by 6, 7, 8 or 9 (roots only): no root is known, which does not say that there is none.
  * A refused call has no time. The field is zero, which as a time stands still: safe, and no answer.
@@ -48,14 +49,17 @@
  *   point by the smallest time of its own pairs is not covered: a sheet that a floor stops at 0.4, and a point that
  *   falls with the sheet and is clear of it at 1, end with the point below the sheet.
  * - Pairs whose two sides share a point have distance 0, up to rounding: they are answered as touching, or with an
- *   offset of 0 sometimes refused by 3. Leave them out.
+ *   offset of 0 sometimes with the budget at 0. Leave them out.
  * - Too small a u_max lets pairs pass through each other, and they are answered as clear. One that was taken before the
  *   scaling is too small where the factor is above 1.
  * - x + t * dx has two roundings, of the product and of the sum. A compiler may fuse the two unless it is told not to
  *   (-ffp-contract=off); then the points are others than those that the answer is about.
  * - Contact stops just beyond park = offset + clearance; steps aim at dip = offset + clearance / 2. At the end of a
- *   clear move, or of a move that another pair's time cuts, a pair may be anywhere from dip up (rounding aside). The
- *   next call may then refuse it by 3, or find it touching.
+ *   clear move, or of a move that another pair's time cuts, a pair may be anywhere from dip up (rounding aside), and the
+ *   next call may find it in the band: beyond the offset, and not beyond park.
+ * - A pair that starts in the band is held to its first distance in place of park: no time that is tried may be nearer
+ *   than the start. Above dip it walks, apart or along, and where it comes nearer it stops, most often near 0. A short
+ *   move, which no step ends within, is clear, and may bring it down to dip. At dip or nearer, see budget at 0.
  *
  * The archive liburtemval.a holds code for x86-64 Linux, needs no other library, and may be linked into executables and
  * shared libraries, position-independent or not.
@@ -64,9 +68,9 @@
 #define URTEMVAL_H
 
 /* The version of this header, and of the archive that was made beside it. */
-#define URTEMVAL_VERSION "0.4.0"
+#define URTEMVAL_VERSION "0.5.0"
 #define URTEMVAL_VERSION_MAJOR 0
-#define URTEMVAL_VERSION_MINOR 4
+#define URTEMVAL_VERSION_MINOR 5
 #define URTEMVAL_VERSION_PATCH 0
 
 #include <float.h>
@@ -107,21 +111,21 @@ enum {
 
 /* How a safe time ends: UrtemvalSafeTime.kind. */
 enum {
-    URTEMVAL_TOUCHING = 0, /* the pair starts at the offset or nearer, or exactly at park: the time is 0 */
-    URTEMVAL_CONTACT = 1,  /* beyond park at this time, and at the next float not */
-    URTEMVAL_CLEAR = 2,    /* beyond park at every time that was tried: the time is the time limit */
-    URTEMVAL_BUDGET = 3,   /* beyond park at this time, at which the call stopped looking */
+    URTEMVAL_TOUCHING = 0, /* the pair starts at the offset or nearer: the time is 0 */
+    URTEMVAL_CONTACT = 1,  /* above the threshold at this time, and at the next float not */
+    URTEMVAL_CLEAR = 2,    /* above the threshold at every time that was tried: the time is the time limit */
+    URTEMVAL_BUDGET = 3,   /* above the threshold at this time, at which the call stopped looking */
     URTEMVAL_REFUSED = 4   /* no time: the refusal says why */
 };
 
 /*
  * Why a call is refused: the field `refusal` of an answer. 0 means that it is not. The lowest number that applies is
- * answered, except that 6, 7 and 8 come as a root finder meets them.
+ * answered, except that 6, 7 and 8 come as a root finder meets them. 3 is retired: no call answers it, and it will not
+ * stand for anything else.
  */
 enum {
     URTEMVAL_NOT_FINITE = 1,        /* some number handed over is NaN or an infinity */
     URTEMVAL_OUT_OF_RANGE = 2,      /* some number lies beyond its range, or the split is neither 2 nor 3 */
-    URTEMVAL_TOO_CLOSE = 3,         /* safe time: the pair starts above the offset and below offset + clearance */
     URTEMVAL_NO_FACTOR = 4,         /* scaling: no finite factor above 0 brings the largest entry to 0.99 */
     URTEMVAL_SCALED_NOT_FINITE = 5, /* scaling: some scaled number would not be finite */
     URTEMVAL_FLAT_SPAN = 6,         /* roots: the polynomial is zero at both ends of a span */
@@ -140,8 +144,6 @@ URTEMVAL_INLINE const char *urtemval_refusal_text(uint32_t refusal) URTEMVAL_NOE
         return "a number handed over is NaN or infinite";
     case URTEMVAL_OUT_OF_RANGE:
         return "a number lies beyond its range, or the split is neither 2 nor 3";
-    case URTEMVAL_TOO_CLOSE:
-        return "safe time: the pair starts above the offset and below offset + clearance";
     case URTEMVAL_NO_FACTOR:
         return "scaling: there is no finite factor above 0";
     case URTEMVAL_SCALED_NOT_FINITE:
@@ -167,14 +169,14 @@ typedef struct UrtemvalPoints {
 /* What a safe time is asked with, beside the pair. */
 typedef struct UrtemvalLimits {
     float offset;    /* at this distance, or nearer, the two sides count as touching: 0 to 2^20 */
-    float clearance; /* contact stops beyond offset + clearance, steps aim at offset + clearance / 2: 0 to 2^20 */
+    float clearance; /* park is offset + clearance, and steps aim at dip, offset + clearance / 2: 0 to 2^20 */
     float max_t;     /* the time limit: 0 to 1, the end of the displacements */
     float u_max;     /* no point of one side comes nearer to one of the other faster than this: 2^-60 to 2^60 */
 } UrtemvalLimits;
 
 /* A safe time. Where it is refused, kind is URTEMVAL_REFUSED and the other fields are zero. */
 typedef struct UrtemvalSafeTime {
-    uint32_t refusal;  /* 0, or the refusal's number: 1, 2 or 3 */
+    uint32_t refusal;  /* 0, or the refusal's number: 1 or 2 */
     uint32_t kind;     /* one of the five kinds */
     float time;        /* from 0 to the time limit; a zero has the sign plus */
     uint32_t probes;   /* how many times were tried, at most 4096, or as many as were allowed */
@@ -205,20 +207,21 @@ typedef struct UrtemvalValue {
 /*
  * How far along the move dx the pair at x0 may go.
  *
- * With d(t) the computed squared distance of the points x0 + t dx, and park = offset + clearance, the kinds and their
- * times are
- * - touching, 0: d is at most offset^2 at the start, or exactly park^2. The time is 0 whatever dx is, also where the
- *   pair moves apart, and asking again answers the same: part such a pair by other means, or leave it out;
- * - contact, t: d(t) exceeds park^2, and at the next float after t, which is within the limit, d does not;
- * - clear, max_t: d exceeds park^2 at the start and at every time that was tried. max_t need not be one of them: the
- *   pair may end nearer than park;
- * - budget, t: d(t) exceeds park^2, and 4096 times were tried.
+ * With d(t) the computed squared distance of the points x0 + t dx, park = offset + clearance, and the threshold the
+ * smaller of park^2 and the float just below d at the start, the kinds and their times are
+ * - touching, 0: d is at most offset^2 at the start. The time is 0 whatever dx is, also where the pair moves apart, and
+ *   asking again answers the same: part such a pair by other means, or leave it out;
+ * - contact, t: d(t) exceeds the threshold, and at the next float after t, which is within the limit, d does not;
+ * - clear, max_t: d exceeds the threshold at the start and at every time that was tried. max_t need not be one of them:
+ *   the pair may end nearer than park, and nearer than it starts;
+ * - budget, t: d(t) exceeds the threshold, and 4096 probes are counted. Where steps are zero all of them are at one
+ *   time, and the call makes only the first.
+ * The threshold is never below offset^2: after contact and budget d(t) exceeds offset^2. From a start beyond park it is
+ * park^2. From one in the band, beyond the offset and not beyond park, no tried time may be nearer than the start.
  * Nothing is said of times that were not tried (docs/GUARANTEES.md). The top of this file says what a solver has to
  * mind, u_max above all.
  *
- * Refusals: 1 some number is NaN or an infinity; 2 one lies beyond its range, or the split is neither 2 nor 3; 3 the
- * pair starts with d above offset^2 and below park^2. A pair that a clear move, or a move cut by another pair's time,
- * has left there starts beyond park again if it is asked with half the clearance, rounding aside.
+ * Refusals: 1 some number is NaN or an infinity; 2 one lies beyond its range, or the split is neither 2 nor 3.
  */
 UrtemvalSafeTime urtemval_safe_time(const UrtemvalPoints *x0, const UrtemvalPoints *dx, size_t split,
                                     UrtemvalLimits limits) URTEMVAL_NOEXCEPT;
@@ -226,7 +229,7 @@ UrtemvalSafeTime urtemval_safe_time(const UrtemvalPoints *x0, const UrtemvalPoin
 /*
  * The same with another number of times that may be tried, 1 to 4096: for a preview, which is to cost little. With 4096
  * it is urtemval_safe_time, bit for bit. The kinds are as there, but for
- * - budget, t: d(t) exceeds park^2, and just `allowance` times were tried.
+ * - budget, t: d(t) exceeds the threshold, and just `allowance` probes are counted.
  * Any answer but a budget is the answer of every larger allowance too, counts included, and a budget is one with every
  * smaller allowance too. As the allowance grows the time never falls: that of a preview is not after the whole call's.
  *

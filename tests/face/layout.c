@@ -48,15 +48,16 @@ int main(void)
     CONSTANT("split", FACE_VERTEX);
     CONSTANT("refusal", NOT_FINITE);
     CONSTANT("refusal", OUT_OF_RANGE);
-    CONSTANT("refusal", TOO_CLOSE);
     CONSTANT("refusal", NO_FACTOR);
     CONSTANT("refusal", SCALED_NOT_FINITE);
     CONSTANT("refusal", FLAT_SPAN);
     CONSTANT("refusal", GUESS_OUTSIDE);
     CONSTANT("refusal", STUCK);
     CONSTANT("refusal", NOT_QUADRATIC);
+    /* 3 is retired */
     for (uint32_t refusal = 1; refusal <= URTEMVAL_NOT_QUADRATIC; refusal++)
-        printf("text %u: %s\n", (unsigned)refusal, urtemval_refusal_text(refusal));
+        if (refusal != 3)
+            printf("text %u: %s\n", (unsigned)refusal, urtemval_refusal_text(refusal));
     printf("version %s\n", URTEMVAL_VERSION);
     printf("version %d.%d.%d by its numbers\n", URTEMVAL_VERSION_MAJOR, URTEMVAL_VERSION_MINOR,
            URTEMVAL_VERSION_PATCH);

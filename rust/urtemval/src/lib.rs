@@ -34,14 +34,18 @@
 //!   covered: a sheet that a floor stops at 0.4, and a point that falls with the sheet and is clear of it at 1, end
 //!   with the point below the sheet.
 //! - **Leave out pairs whose sides share a point.** Their distance is 0, up to rounding: they are touching, or with an
-//!   offset of 0 sometimes [`Refusal::TooClose`].
+//!   offset of 0 sometimes [`Answer::Budget`] at 0.
 //! - **`u_max` must not be too small**, or pairs pass through each other and are told as clear.
 //!   `max_relative_norm(&dx, split)?.max(LEAST_U_MAX)` is right, also for a pair at rest, whose norm is 0.
 //! - **Move the points as the library does**: `x + t * dx`, the product rounded and then the sum, and not `mul_add`.
 //!   What is said of the distance at t is said of these points.
 //! - **Contact stops just beyond park = offset + clearance; steps aim at dip = offset + clearance / 2.** At the end of
 //!   a clear move, or of a move that another pair's time cuts, a pair may be anywhere from dip up, and the next call
-//!   may find it too close ([`Refusal::TooClose`]) or touching.
+//!   may find it in the band: beyond the offset, and not beyond park.
+//! - **A pair that starts in the band is held to its first distance in place of park**: no time that is tried may be
+//!   nearer than the start. At dip or nearer its steps are zero, unless coordinates are coarse beside the distance: it is
+//!   answered [`Answer::Budget`] at 0 and cannot move, not even apart. Ask with a smaller clearance for this pair: at
+//!   most half of its distance less the offset keeps the start beyond park, rounding aside.
 //! - **Centring and scaling** ([`scale_pair`]) change the limits of a pair, too.
 //! - **A preview** tries fewer times ([`Limits::allowing`], [`safe_times_allowing`]). Any answer but
 //!   [`Answer::Budget`] is then the last word, and no time is after that of the whole call.
@@ -115,8 +119,9 @@ pub enum Split {
 pub struct Limits {
     /// At this distance, or nearer, the two sides count as touching.
     pub offset: f32,
-    /// What lies between the offset and park, just beyond which a contact is answered. Steps aim at its middle: on the
-    /// way, and at the end of a clear move, a pair may be anywhere from dip = offset + clearance / 2 up.
+    /// What lies between the offset and park, just beyond which a contact is answered, unless the pair starts nearer.
+    /// Steps aim at its middle: on the way, and at the end of a clear move, a pair may be anywhere from dip = offset +
+    /// clearance / 2 up.
     pub clearance: f32,
     /// The time limit, at most 1: the end of the displacements.
     pub max_t: f32,
@@ -176,19 +181,21 @@ impl From<Limits> for Allowing {
     }
 }
 
-/// How a safe time ends, with its time. Below, d(t) is the computed squared distance of the points `x0 + t dx`, and
-/// park is offset + clearance. Nothing is said of d at a time that was not tried.
+/// How a safe time ends, with its time. Below, d(t) is the computed squared distance of the points `x0 + t dx`, park is
+/// offset + clearance, and the threshold is the smaller of park² and the `f32` just below d at the start: park² from a
+/// start beyond park, and never below offset². Nothing is said of d at a time that was not tried.
 #[derive(Clone, Copy, Debug, PartialEq)]
 pub enum Answer {
-    /// At the start d is at most offset², or exactly park². The time is 0 whatever the displacements are, also where
-    /// the pair moves apart, and asking again answers the same: such a pair is parted by other means, or left out.
+    /// At the start d is at most offset². The time is 0 whatever the displacements are, also where the pair moves apart,
+    /// and asking again answers the same: such a pair is parted by other means, or left out.
     Touching,
-    /// d exceeds park² at this time, and at the next `f32` it does not.
+    /// d exceeds the threshold at this time, and at the next `f32` it does not.
     Contact(f32),
-    /// d exceeds park² at the start and at every time that was tried. The time is the time limit, which need not be one
-    /// of them: the pair may end nearer than park.
+    /// d exceeds the threshold at the start and at every time that was tried. The time is the time limit, which need not
+    /// be one of them: the pair may end nearer than park, and nearer than it starts.
     Clear(f32),
-    /// d exceeds park² at this time, and as many times were tried as are allowed: 4,096, or those of an [`Allowing`].
+    /// d exceeds the threshold at this time, and as many probes are counted as are allowed: 4,096, or those of an
+    /// [`Allowing`].
     Budget(f32),
 }
 
@@ -261,9 +268,7 @@ impl PartialEq for Roots {
 ///
 /// # Errors
 ///
-/// [`Refusal::NotFinite`], [`Refusal::OutOfRange`], and [`Refusal::TooClose`] where the squared distance at the start
-/// is above offset² and below park². A pair that a clear move, or a move cut by another pair's time, has left there
-/// starts beyond park again if it is asked with half the clearance, rounding aside.
+/// [`Refusal::NotFinite`] and [`Refusal::OutOfRange`].
 ///
 /// ```
 /// use urtemval::{safe_time, Answer, Limits, Refusal, Split};
@@ -274,8 +279,14 @@ impl PartialEq for Roots {
 /// let safe = safe_time(&x0, &rising, Split::FaceVertex, limits)?;
 /// assert_eq!(safe.answer, Answer::Clear(1.0));
 ///
-/// let wide = Limits { clearance: 2.0, ..limits };
-/// assert_eq!(safe_time(&x0, &rising, Split::FaceVertex, wide), Err(Refusal::TooClose));
+/// // park is 1.5 and dip 0.75: the pair starts in the band, above dip, and rises out of it
+/// let wide = Limits { clearance: 1.5, ..limits };
+/// assert_eq!(safe_time(&x0, &rising, Split::FaceVertex, wide)?.answer, Answer::Clear(1.0));
+///
+/// // dip is 1, where the pair starts: it cannot move, but with half of its distance as the clearance it can
+/// let wider = Limits { clearance: 2.0, ..limits };
+/// assert_eq!(safe_time(&x0, &rising, Split::FaceVertex, wider)?.answer, Answer::Budget(0.0));
+/// assert_eq!(safe_time(&x0, &rising, Split::FaceVertex, limits)?.answer, Answer::Clear(1.0));
 /// # Ok::<(), Refusal>(())
 /// ```
 #[inline]

@@ -5,7 +5,8 @@ use std::fmt;
 
 /// Why a call is refused. Each has the number that the rules (docs/01-scope.md, "Refusal numbers") give it.
 ///
-/// The lowest number that applies is answered, except that 6, 7 and 8 come as a root finder meets them.
+/// The lowest number that applies is answered, except that 6, 7 and 8 come as a root finder meets them. 3 is retired: no
+/// call answers it, and it will not stand for anything else.
 #[derive(Clone, Copy, Debug, PartialEq, Eq, Hash, PartialOrd, Ord)]
 #[repr(u32)]
 pub enum Refusal {
@@ -13,8 +14,6 @@ pub enum Refusal {
     NotFinite = 1,
     /// Some number lies beyond its range, or, of coplanar times, a coefficient of the volume's cubic does.
     OutOfRange = 2,
-    /// Of a safe time: the pair starts in the band, above the offset and below offset + clearance.
-    TooClose = 3,
     /// Of scaling: no finite factor above 0 brings the largest entry to 0.99.
     NoFactor = 4,
     /// Of scaling: some scaled number would not be finite.
@@ -31,10 +30,9 @@ pub enum Refusal {
 
 impl Refusal {
     /// All of them, in the order of their numbers.
-    pub const ALL: [Refusal; 9] = [
+    pub const ALL: [Refusal; 8] = [
         Refusal::NotFinite,
         Refusal::OutOfRange,
-        Refusal::TooClose,
         Refusal::NoFactor,
         Refusal::ScaledNotFinite,
         Refusal::FlatSpan,
@@ -43,7 +41,7 @@ impl Refusal {
         Refusal::NotQuadratic,
     ];
 
-    /// The number of the refusal, from 1 on.
+    /// The number of the refusal, from 1 to 9.
     pub fn number(self) -> u32 {
         self as u32
     }
@@ -59,9 +57,6 @@ impl Refusal {
             Refusal::NotFinite => "a number handed over is NaN or infinite",
             Refusal::OutOfRange => {
                 "a number lies beyond its range, or the split is neither 2 nor 3"
-            }
-            Refusal::TooClose => {
-                "safe time: the pair starts above the offset and below offset + clearance"
             }
             Refusal::NoFactor => "scaling: there is no finite factor above 0",
             Refusal::ScaledNotFinite => "scaling: a scaled number would not be finite",
