@@ -1,5 +1,6 @@
 // The safe time of a pair (ccd3.rs: `maximum_safe_time_accurate`; docs/01-scope.md, "The walk", "The allowance").
 ghost use mathlib.Core.Path.{_≡_};
+ghost use lib.Ieee.{le};
 ghost use Rattle.admission.specs.Admission.{fullAllowance, walkRefusal};
 ghost use Rattle.ccd3.specs.SafeTime as Def;
 ghost use Rattle.ccd3.specs.Allowance.{GrowsFrom};
@@ -15,6 +16,13 @@ use admission::admit_walk;
 use distance::nearest::nearest;
 use number::order::next_down;
 use number::order::smaller;
+
+// Whether a pair with this squared distance at the start is touching.
+fn touches(l: Limits, first: f32) -> bool
+    ensures { λ r. ⌜ r ≡ le first (Def.squaredOffset l) ⌝ }
+{
+    first <= l.offset * l.offset
+}
 
 // What the squared distance has to stay above, from the one at the start.
 fn threshold(l: Limits, first: f32) -> f32
@@ -44,18 +52,11 @@ fn admitted(
     ensures { λ r. ⌜ r ≡ Inner.countedFrom 0 (Def.safeWalk x0 dx split l allowance) ⌝ }
 {
     let first = nearest(x0, split);
-    if first.squared <= l.offset * l.offset {
+    let squared = first.squared;
+    if touches(l, squared) {
         return still(Answer::Touching(0.0));
     }
-    walk(
-        x0,
-        dx,
-        split,
-        threshold(l, first.squared),
-        l,
-        allowance,
-        first,
-    )
+    walk(x0, dx, split, threshold(l, squared), l, allowance, first)
 }
 
 // The whole record of a call: how it ends, and how many of the probes allowed it makes.
