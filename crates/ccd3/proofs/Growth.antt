@@ -4,8 +4,8 @@ use mathlib.Core.Path.{_≡_, refl, sym, subst}
 use mathlib.Core.Bool.{Bool, true, false, cond, not}
 use mathlib.Core.List.{List, [], _∷_}
 use Prim.Native.Nat.{ℕ}
-use lib.Dec.{eqb, T, not-T}
-use lib.Ieee.{Float, fin, binary32, lt, le, fits, isNan, ofBits}
+use lib.Dec.{eqb, T, T-not, not-T}
+use lib.Ieee.{Float, binary32, lt, le, fits, isNan, ofBits}
 use lib.Ieee.Fits.{add-fits, mul-fits, div-fits}
 use lib.Ieee.Bits.{ofBits-fits}
 use lib.Ieee.Scale.{finite}
@@ -13,7 +13,8 @@ use Rattle.number.specs.Number.{_⊕_, _⊖_, _⊗_, _⊘_, zero32, one32, larg
 use Rattle.number.proofs.Choice.{larger-keeps, smaller-keeps}
 use Rattle.number.proofs.Comparing.{not-lt-le}
 use Rattle.number.proofs.Later.{later-any, earlier}
-use Rattle.number.proofs.NoNan.{no-nan-lt, no-nan-le}
+use Rattle.number.proofs.Largest.{larger-reaches}
+use Rattle.number.proofs.NoNan.{no-nan-lt, no-nan-le, no-nan-finite}
 use Rattle.number.proofs.Signs.{quotient-up}
 use Rattle.number.proofs.Transitive.{le-le-trans}
 use Rattle.number.proofs.Units.{plus}
@@ -30,27 +31,11 @@ pub record Sound (d : Float) : Type 0 where
   pub sign : T (plus d)
   pub bound : Within 60 d
 
-zero-up : T (le zero32 zero32) × T (not (lt zero32 zero32)) × T (not (isNan zero32))
-unfolding le isNan ofBits
-zero-up = (tt, tt, tt)
-
-largest-up : T (le zero32 largest32)
+zero-up : T (le zero32 zero32) × T (le zero32 largest32)
 unfolding le ofBits
-largest-up = tt
-
-finite-number : (x : Float) → T (finite x) → T (not (isNan x))
-unfolding isNan
-finite-number (fin s m e) f = tt
+zero-up = (tt, tt)
 
 -- ---- the directional step is an f32, and not below zero
-held-up : (x : Float) → T (not (lt (larger x zero32) zero32))
-unfolding larger
-held-up x = go (lt x zero32) refl
-  where
-    go : (b : Bool) → lt x zero32 ≡ b → T (not (lt (cond b zero32 x) zero32))
-    go true e = zero-up .1
-    go false e = subst (λ (c : Bool). T (not c)) (sym e) tt
-
 module _ (x dx : List (List Float)) (a : Aim) where
   abbrev F : Float → Type 0
   F t = T (fits binary32 t)
@@ -70,7 +55,7 @@ module _ (x dx : List (List Float)) (a : Aim) where
       time = larger rest zero32 ⊘ speed
 
       go : (b : Bool) → (T b → T (not (isNan time))) → Up (cond b time least)
-      go true n = quotient-up (larger rest zero32) speed (held-up rest) h (n tt)
+      go true n = quotient-up (larger rest zero32) speed (larger-reaches rest zero32) h (n tt)
       go false n = k
 
   time-fits : (left speed : Float) → F (timeToPark a left speed)
@@ -99,18 +84,14 @@ module _ (x dx : List (List Float)) (a : Aim) where
   directional-step : (split : ℕ) → F (directional x dx split a .length) × Up (directional x dx split a .length)
   unfolding directional
   directional-step split =
-      least-step (crossPairs (cond (eqb split 2) 2 3)) largest32 (ofBits-fits binary32 0x7f7f_ffff) largest-up
+      least-step (crossPairs (cond (eqb split 2) 2 3)) largest32 (ofBits-fits binary32 0x7f7f_ffff) (zero-up .1)
 
 -- the larger of a number and one that is not below zero is not below zero
 larger-up : (p d : Float) → T (not (isNan p)) → T (le zero32 d) → T (le zero32 (larger p d))
-unfolding larger
-larger-up p d n h = go (lt p d) refl
-  where
-    go : (b : Bool) → lt p d ≡ b → T (le zero32 (cond b d p))
-    go true e = h
-    go false e =
-        le-le-trans zero32 d p h
-        (not-lt-le p d n (no-nan-le zero32 d h .1) (subst (λ (c : Bool). T (not c)) (sym e) tt))
+larger-up p d n h =
+    let k = no-nan-le zero32 d h .1 in
+    le-le-trans zero32 d (larger p d) h
+    (not-lt-le (larger p d) d (larger-keeps (λ t. T (not (isNan t))) p d n k) k (larger-reaches p d))
 
 -- ---- the step, and the next time
 module _ (dx : List (List Float)) (split : ℕ) (l : Limits) (v : Visit) where
@@ -149,15 +130,12 @@ module _ (dx : List (List Float)) (split : ℕ) (l : Limits) (v : Visit) where
     -- where the directional step is not tried, the plain one is not below zero: it leads past the time limit
     plain-up : T (not tried) → T (le zero32 p)
     plain-up n =
-        not-lt-le p zero32 (finite-number p number) (zero-up .2)
-        (not-T (lt p zero32) (λ h. no tried n
+        not-lt-le p zero32 (no-nan-finite p number) (no-nan-le zero32 zero32 (zero-up .0) .0)
+        (not-T (lt p zero32) (λ h. T-not tried n
         (le-le-trans (v .time ⊕ p) (v .time) (l .«max_t») (earlier (v .time) p f k q p-fits number h) in-limit)))
-      where
-        no : (b : Bool) → T (not b) → T b → ⊥
-        no false n h = h
 
     step-up : T (le zero32 (stepFrom dx split l v .length))
-    step-up = by-trial (λ t. T (le zero32 t)) (larger-up p d (finite-number p number) (d-step .1)) plain-up
+    step-up = by-trial (λ t. T (le zero32 t)) (larger-up p d (no-nan-finite p number) (d-step .1)) plain-up
 
     -- the next time is not before this one; with the sign plus, so no NaN
     pub next-later : T (le (v .time) (next dx split l v)) × T (plus (next dx split l v))

@@ -21,10 +21,11 @@ use Rattle.ccd3.specs.SafeTime.{numbersOf, squaredAt, above, Walked, sta
 use Rattle.ccd3.specs.SafeTime.{still, firstSquared, touches, threshold, safeWalk, safeTimeOf, InTime, Every}
 use Rattle.ccd3.specs.SafeTime.{Rising, isFar, Stopped, Passed, Placed, Promised, Promises}
 use Rattle.ccd3.proofs.StartLaws.{walked, safe-refused, safe-touches, safe-walks}
-use Rattle.ccd3.proofs.Standing.{zero-timely, Ground, limit-from, start-number, number-at, start-stands}
+use Rattle.ccd3.proofs.Standing.{zero-timely, Ground, limit-from, start-number, sound-in-time, number-at}
+use Rattle.ccd3.proofs.Standing.{start-stands}
 use Rattle.ccd3.proofs.Kept.{Says, Kept, in-time, clear-in-time, walk-keeps}
 use Rattle.ccd3.proofs.Growth.{Sound}
-use Rattle.ccd3.proofs.Threshold.{squares-ordered, over-offset, under-park, under-start, at-park}
+use Rattle.ccd3.proofs.Threshold.{squares-ordered, over-offset, under-park, under-start, in-band, at-park}
 use Rattle.ccd3.proofs.Admitted.{Fitting, ground}
 
 module _ (x₀ dx : List (List Float)) (split : ℕ) (l : Limits) (allowed : ℕ) where
@@ -52,7 +53,7 @@ module _ (x₀ dx : List (List Float)) (split : ℕ) (l : Limits) (allowed : ℕ
     clear = λ h. absurd (omega arith);
     budget = λ h. absurd (omega arith);
     placed = λ h. absurd (omega arith);
-    off = λ k. elim k [ inl h ↦ absurd (omega (arith, h)) | inr h ↦ absurd (omega (arith, h)) ];
+    apart = λ k. elim k [ inl h ↦ absurd (omega (arith, h)) | inr h ↦ absurd (omega (arith, h)) ];
     above-park = λ h. absurd (omega arith);
   }
 
@@ -71,9 +72,13 @@ module _ (x₀ dx : List (List Float)) (split : ℕ) (l : Limits) (allowed : ℕ
       sound-first = g .sound-start
 
       walk-placed : Placed x₀ dx split l allowed
+      unfolding above squaredAt
       walk-placed = record {
         over-offset = over-offset l (g .given) first sound-first walks;
         under-park = under-park l (g .given) first sound-first walks;
+        no-nearer = λ h t a b.
+            in-band l (g .given) first sound-first walks h (squaredAt x₀ dx split t)
+            (sound-in-time x₀ dx split l g t a b .fit);
       }
 
       begins : lt (threshold x₀ dx split l) first ≡ true
@@ -134,7 +139,7 @@ module _ (x₀ dx : List (List Float)) (split : ℕ) (l : Limits) (allowed : ℕ
         clear = passed;
         budget = paused;
         placed = λ n m. walk-placed (walks m);
-        off = λ k. elim k [
+        apart = λ k. elim k [
           | inl h ↦ beyond (walks (λ z. omega (arith, h, z))) t (stopped h .far)
           | inr h ↦ beyond (walks (λ z. omega (arith, h, z))) t (paused h .0)
         ];

@@ -64,13 +64,16 @@ module _ (x₀ dx : List (List Float)) (split : ℕ) (l : Limits) (g : Ground x�
       let b : m .0 ≤ L = le-says (l .«max_t») one32 (m .0) L (m .1 .is) one-is limit-to in
       says-le t one32 u L i one-is (le-trans a b)
 
-  -- ---- no squared distance is NaN
+  -- ---- no squared distance is NaN, and those in time are sound
   pub start-number : T (not (isNan (nearestOf split x₀ .squared)))
   start-number = number (g .sound-start)
 
-  pub number-at : (t : Float) → T (le zero32 t) → T (le t (l .«max_t»)) → T (not (isNan (squaredAt x₀ dx split t)))
+  pub sound-in-time : (t : Float) → T (le zero32 t) → T (le t (l .«max_t»)) → Sound (squaredAt x₀ dx split t)
   unfolding squaredAt
-  number-at t a b = number (g .sound-at t a (le-le-trans t (l .«max_t») one32 b limit-to))
+  sound-in-time t a b = g .sound-at t a (le-le-trans t (l .«max_t») one32 b limit-to)
+
+  pub number-at : (t : Float) → T (le zero32 t) → T (le t (l .«max_t»)) → T (not (isNan (squaredAt x₀ dx split t)))
+  number-at t a b = number (sound-in-time t a b)
 
   -- ---- over a threshold
   module _ (threshold : Float) where

@@ -1,12 +1,12 @@
 -- The safe time's threshold (specs/SafeTime.antt), from a first squared distance above the squared offset: it is below the
--- first, not below the squared offset and not above the squared park distance, which it is where the first is above that.
--- Assumes nothing.
+-- first, not below the squared offset and not above the squared park distance, which it is where the first is above that;
+-- elsewhere what is above it is what is not below the first. Assumes nothing.
 use mathlib.Core.Path.{_≡_, refl, sym, subst}
 use mathlib.Core.Bool.{Bool, true, false, not, cond}
 use Prim.Native.Nat.{ℕ, _+_, _*_, _^_, _≤_, _<_}
 use native.Mathlib.Nat.{le-trans, le-of-eq, lt-of-le-of-lt, one-mul, mul-le-mul, mul-le-mul-right}
 use native.Mathlib.Omega.{arith}
-use lib.Dec.{T, lit<, lit≤}
+use lib.Dec.{T, not-T, lit<, lit≤}
 use lib.Pow.{pow-pos}
 use lib.Ieee.{Float, binary32, fits, lt, le, isNan}
 use lib.Ieee.Bits.{is-true}
@@ -22,9 +22,9 @@ use Rattle.number.proofs.Ranges.{zero-to-bound}
 use Rattle.number.proofs.Rounding.{rnd, rnd-mono, rnd-fix}
 use Rattle.number.proofs.Signs.{plus-up, square-plus}
 use Rattle.number.proofs.Sums.{add-is}
-use Rattle.number.proofs.Transitive.{le-lt-trans, lt-not-le}
+use Rattle.number.proofs.Transitive.{le-lt-trans, lt-le-trans, lt-not-le, le-le-trans}
 use Rattle.number.proofs.Units.{Unit32, of-float}
-use Rattle.number.proofs.Units.Compared.{L}
+use Rattle.number.proofs.Units.Compared.{L, same-test}
 use Rattle.number.proofs.Within.{within-finite, within-units}
 use Rattle.admission.specs.declared.Limits.{Limits}
 use Rattle.ccd3.specs.SafeTime.{park, squaredOffset, squaredPark, thresholdFrom}
@@ -121,6 +121,20 @@ module _ (l : Limits) (g : Given l) (d : Float) (s : Sound d) (apart : le d (squ
   under-start =
       is-true (lt (thresholdFrom l d) d)
       (by-order (λ t. T (lt t d)) (λ h. below) (λ h. le-lt-trans (squaredPark l) (nextDown d) d h below))
+
+  -- where d is not above the squared park distance, to be above the threshold is to be not below d
+  pub in-band : le d (squaredPark l) ≡ true → (e : Float) → T (fits binary32 e) → lt (thresholdFrom l d) e ≡ le d e
+  in-band h e f =
+      same-test (lt (thresholdFrom l d) e) (le d e)
+      (λ a. not-lt-le e d (no-nan-lt (thresholdFrom l d) e a .1) (no-nan-lt (nextDown d) d below .1)
+      (not-T (lt e d) (λ b. lt-not-le (nextDown d) e (subst (λ (t : Float). T (lt t e)) is-below a)
+      (next-down-greatest d (own .0) (s .fit) (own .1) above-zero e f b))))
+      (λ b. lt-le-trans (thresholdFrom l d) d e (subst T (sym under-start) tt) b)
+    where
+      is-below : thresholdFrom l d ≡ nextDown d
+      is-below =
+          by-order (λ t. t ≡ nextDown d) (λ k. refl)
+          (λ k. absurd (lt-not-le (nextDown d) d below (le-le-trans d (squaredPark l) (nextDown d) (subst T (sym h) tt) k)))
 
   -- where d is above the squared park distance, that is the threshold
   pub at-park : lt (squaredPark l) d ≡ true → thresholdFrom l d ≡ squaredPark l

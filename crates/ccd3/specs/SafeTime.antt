@@ -293,10 +293,13 @@ module _ (x₀ dx : List (List Float)) (split : ℕ) (l : Limits) (allowed : ℕ
     pub start-far : lt (threshold x₀ dx split l) (firstSquared x₀ dx split l) ≡ true
     pub probes-far : Every (λ (u : Float). isFar u ≡ true) probed
 
-  -- a walk's threshold: not below the squared offset, nor above the squared park distance
+  -- a walk's threshold: not below the squared offset, nor above the squared park distance. From a start that is not above
+  -- the latter, to exceed it is to be not below the start's
   pub record Placed : Type 0 where
     pub over-offset : T (le (squaredOffset l) (threshold x₀ dx split l))
     pub under-park : T (le (threshold x₀ dx split l) (squaredPark l))
+    pub no-nearer : le (firstSquared x₀ dx split l) (squaredPark l) ≡ true → (t : Float) → T (le zero32 t)
+        → T (le t (l .«max_t»)) → isFar t ≡ le (firstSquared x₀ dx split l) (squaredAt x₀ dx split t)
 
   -- the numbers of an answer; kinds are 0 touching, 1 contact, 2 clear, 3 budget, 4 refused. A refused call has no time
   -- and zero counts; any other, an allowance in its range. Touching: at the start it is at most the squared offset.
@@ -318,7 +321,7 @@ module _ (x₀ dx : List (List Float)) (split : ℕ) (l : Limits) (allowed : ℕ
     pub clear : kind ≡ 2 → Passed time
     pub budget : kind ≡ 3 → (isFar time ≡ true) × (probes ≡ allowed)
     pub placed : refusal ≡ 0 → (kind ≡ 0 → ⊥) → Placed
-    pub off : (kind ≡ 1) ⊎ (kind ≡ 3) → lt (squaredOffset l) (squaredAt x₀ dx split time) ≡ true
+    pub apart : (kind ≡ 1) ⊎ (kind ≡ 3) → lt (squaredOffset l) (squaredAt x₀ dx split time) ≡ true
     pub above-park : refusal ≡ 0 → lt (squaredPark l) (firstSquared x₀ dx split l) ≡ true
         → safeWalk x₀ dx split l allowed ≡ walk x₀ dx split (squaredPark l) l allowed (start x₀ dx split)
 

@@ -5,9 +5,10 @@ use mathlib.Core.Bool.{Bool, true, false, not, cond}
 use Prim.Native.Nat.{ℕ, _*_, _^_, _≤_}
 use native.Mathlib.Nat.{le-antisymm}
 use lib.Dec.{T, T-not, not-T, nltb→le}
-use lib.Ieee.{Float, nan, inf, fin, binary32, lt, fits}
+use lib.Ieee.{Float, inf, fin, binary32, lt, fits}
 use Rattle.number.specs.Number.{larger}
 use Rattle.number.proofs.Units.{plus, shift, fin-false, same-float, Is, lt-is}
+use Rattle.number.proofs.Signs.{above-plus}
 use Rattle.number.proofs.Transitive.{lt-trans, lt-self}
 
 -- y is not below x; so it is where one of them is a NaN
@@ -33,19 +34,9 @@ larger-stays x y z h = go (lt x y) (λ t. not-T (lt y z) (λ u. T-not (lt x z) h
     go false p = h
 
 -- ---- from a number of sign plus on
-lt-plus : (x y : Float) → T (plus x) → T (lt x y) → T (plus y)
-unfolding lt
-lt-plus (inf false) nan p h = absurd h
-lt-plus (inf false) (inf t) p h = absurd h
-lt-plus (inf false) (fin t n d) p h = absurd h
-lt-plus (fin false m e) nan p h = absurd h
-lt-plus (fin false m e) (inf t) p h = h
-lt-plus (fin false m e) (fin true n d) p h = absurd h
-lt-plus (fin false m e) (fin false n d) p h = tt
-
 pub larger-plus : (x y : Float) → T (plus x) → T (plus (larger x y))
 unfolding larger
-larger-plus x y p = go (lt x y) (lt-plus x y p)
+larger-plus x y p = go (lt x y) (above-plus x y p)
   where
     go : (b : Bool) → (T b → T (plus y)) → T (plus (cond b y x))
     go true q = q tt

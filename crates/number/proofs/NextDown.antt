@@ -22,9 +22,9 @@ zero-plus : T (plus zero32)
 unfolding ofBits
 zero-plus = tt
 
-value-plus : (x : Float) (u : ℕ) → HasValue x false u L → T (plus x)
-value-plus (fin false m e) u v = tt
-value-plus (fin true m e) u v = subst (λ (s : Bool). T s) (v .0) tt
+plus-value : (x : Float) (u : ℕ) → HasValue x false u L → T (plus x)
+plus-value (fin false m e) u v = tt
+plus-value (fin true m e) u v = subst (λ (s : Bool). T s) (v .0) tt
 
 module _ (x : Float) (u : ℕ) (f : T (fits binary32 x)) (i : Unit32 x u) (a : T (lt zero32 x)) where
   abbrev b : ℕ
@@ -51,7 +51,7 @@ module _ (x : Float) (u : ℕ) (f : T (fits binary32 x)) (i : Unit32 x u) (a : T
   down-fits = by-bits (λ y. T (fits binary32 y)) (ofBits-fits binary32 (b - 1))
 
   down-plus : T (plus (nextDown x))
-  down-plus = by-bits (λ y. T (plus y)) (value-plus (ofBits binary32 (b - 1)) (val (b - 1)) (bits-plus (b - 1) under))
+  down-plus = by-bits (λ y. T (plus y)) (plus-value (ofBits binary32 (b - 1)) (val (b - 1)) (bits-plus (b - 1) under))
 
   down-finite : T (finite (nextDown x))
   down-finite = by-bits (λ y. T (finite y)) (finite-is (ofBits binary32 (b - 1)) (val (b - 1)) (bits-are (b - 1) under))

@@ -39,6 +39,11 @@ no-nan-le (inf s) (fin t n d) h = (tt, tt)
 no-nan-le (fin s m e) (inf t) h = (tt, tt)
 no-nan-le (fin s m e) (fin t n d) h = (tt, tt)
 
+-- what is finite
+pub no-nan-finite : (x : Float) → T (finite x) → T (not (isNan x))
+unfolding isNan
+no-nan-finite (fin s m e) f = tt
+
 -- ---- what is rounded
 odd-no-nan : (d : ℕ) (s : Bool) (q k l : ℕ) → T (not (isNan (odd d s q k l)))
 unfolding odd isNan

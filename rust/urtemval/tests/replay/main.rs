@@ -1,11 +1,13 @@
 //! Replays the calls of the frozen list (docs/TESTING.md, "The stream") through the safe functions, and holds each
 //! answer to the one in the list, word by word. Fails where one differs, and where a function is not called at all.
-//! Safe times are asked once more, all at once, by `safe_times`, and with growing allowances.
+//! Safe times are asked once more, all at once, by `safe_times`, and with growing allowances; and where a contact or a
+//! budget leaves a pair, its next call is made.
 //!
 //! A split that is neither 2 nor 3 cannot be said in this crate's types: such a call goes through `raw`, as every safe
 //! time does beside the safe function.
 
 mod growing;
+mod onward;
 mod stream;
 mod told;
 
@@ -119,8 +121,9 @@ fn answer(face: &str, call: &Call) -> Vec<u32> {
     }
 }
 
-/// Safe times once more, all at once, and with growing allowances; says how many.
-fn at_once(calls: &[Call]) -> usize {
+/// Safe times once more, all at once, with growing allowances, and on from where they end; says how many, and how many
+/// go on.
+fn at_once(calls: &[Call]) -> (usize, usize) {
     let safe_times = calls
         .iter()
         .filter(|call| call.function.face == Some("safe_time"));
@@ -132,7 +135,7 @@ fn at_once(calls: &[Call]) -> usize {
     }
     growing::hold(&queries, &answers);
     assert_eq!(urtemval::safe_times(&[]), []);
-    queries.len()
+    (queries.len(), onward::hold(&queries, &answers))
 }
 
 fn main() {
@@ -155,10 +158,11 @@ fn main() {
             let count = count.unwrap_or_else(|| panic!("{face} is not called"));
             format!("{face} {count}")
         });
+    let (once_more, onward) = at_once(&calls);
     println!(
-        "{}; {} calls, and {} safe times at once and by allowances, all answered as in the frozen list",
+        "{}; {} calls, and {once_more} safe times at once and by allowances, all answered as in the frozen list; \
+         {onward} next calls neither refused nor touching",
         told.collect::<Vec<_>>().join(", "),
         counts.values().sum::<usize>(),
-        at_once(&calls)
     );
 }
