@@ -55,8 +55,8 @@
  * - x + t * dx has two roundings, of the product and of the sum. A compiler may fuse the two unless it is told not to
  *   (-ffp-contract=off); then the points are others than those that the answer is about.
  * - Contact stops just beyond park = offset + clearance; steps aim at dip = offset + clearance / 2. At the end of a
- *   clear move, or of a move that another pair's time cuts, a pair may be anywhere from dip up (rounding aside), and the
- *   next call may find it in the band: beyond the offset, and not beyond park.
+ *   clear move, or of a move that another pair's time cuts, a pair may be anywhere from dip up (rounding aside), and
+ *   the next call may find it in the band: beyond the offset, and not beyond park.
  * - A pair that starts in the band is held to its first distance in place of park: no time that is tried may be nearer
  *   than the start. Above dip it walks, apart or along, and where it comes nearer it stops, most often near 0. A short
  *   move, which no step ends within, is clear, and may bring it down to dip. At dip or nearer, see budget at 0.

@@ -156,7 +156,8 @@ module _ (x₀ dx : List (List Float)) (split : ℕ) (l : Limits) where
         go zero false e t =
             let is = safe-walks x₀ dx split l fewer e t in
             safe-walks x₀ dx split l more (alike ∙ e) t
-            ∙ walk-stays x₀ dx split (threshold x₀ dx split l) l fewer more h (start x₀ dx split) (λ k. other (ap kindOf is ∙ k))
+            ∙ walk-stays x₀ dx split (threshold x₀ dx split l) l fewer more h (start x₀ dx split)
+            (λ k. other (ap kindOf is ∙ k))
             ∙ sym is
 
     -- what is no budget with fewer is none with more

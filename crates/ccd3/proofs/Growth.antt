@@ -1,5 +1,5 @@
--- Times only grow: no step is below zero, from any place within the time limit, whatever the distance there; and the time
--- after the step is not before this one, and no NaN (specs/SafeTime.antt). Assumes nothing.
+-- Times only grow: no step is below zero, from any place within the time limit, whatever the distance there; and the
+-- time after the step is not before this one, and no NaN (specs/SafeTime.antt). Assumes nothing.
 use mathlib.Core.Path.{_≡_, refl, sym, subst}
 use mathlib.Core.Bool.{Bool, true, false, cond, not}
 use mathlib.Core.List.{List, [], _∷_}
@@ -115,7 +115,8 @@ module _ (dx : List (List Float)) (split : ℕ) (l : Limits) (v : Visit) where
   unfolding stepFrom
   by-trial P h k = go tried refl
     where
-      go : (b : Bool) → tried ≡ b → P (cond {A = Step} b (record { length = larger p d; tried = true; directed = lt p d })
+      go : (b : Bool) → tried ≡ b
+          → P (cond {A = Step} b (record { length = larger p d; tried = true; directed = lt p d })
           (record { length = p; tried = false; directed = false }) .length)
       go true e = h
       go false e = k (subst (λ (c : Bool). T (not c)) (sym e) tt)

@@ -1,4 +1,5 @@
--- The plain step from any squared distance that a walk can compute with is finite (specs/SafeTime.antt). Assumes nothing.
+-- The plain step from any squared distance that a walk can compute with is finite (specs/SafeTime.antt). Assumes
+-- nothing.
 use lib.Dec.{T, lit≤}
 use lib.Ieee.{Float, binary32, fits, ofBits}
 use lib.Ieee.Scale.{finite}

@@ -1,6 +1,6 @@
--- The safe time's threshold (specs/SafeTime.antt), from a first squared distance above the squared offset: it is below the
--- first, not below the squared offset and not above the squared park distance, which it is where the first is above that;
--- elsewhere what is above it is what is not below the first. Assumes nothing.
+-- The safe time's threshold (specs/SafeTime.antt), from a first squared distance above the squared offset: it is below
+-- the first, not below the squared offset and not above the squared park distance, which it is where the first is above
+-- that; elsewhere what is above it is what is not below the first. Assumes nothing.
 use mathlib.Core.Path.{_≡_, refl, sym, subst}
 use mathlib.Core.Bool.{Bool, true, false, not, cond}
 use Prim.Native.Nat.{ℕ, _+_, _*_, _^_, _≤_, _<_}
@@ -134,7 +134,8 @@ module _ (l : Limits) (g : Given l) (d : Float) (s : Sound d) (apart : le d (squ
       is-below : thresholdFrom l d ≡ nextDown d
       is-below =
           by-order (λ t. t ≡ nextDown d) (λ k. refl)
-          (λ k. absurd (lt-not-le (nextDown d) d below (le-le-trans d (squaredPark l) (nextDown d) (subst T (sym h) tt) k)))
+          (λ k. absurd (lt-not-le (nextDown d) d below
+          (le-le-trans d (squaredPark l) (nextDown d) (subst T (sym h) tt) k)))
 
   -- where d is above the squared park distance, that is the threshold
   pub at-park : lt (squaredPark l) d ≡ true → thresholdFrom l d ≡ squaredPark l

@@ -63,8 +63,8 @@ module _ (x₀ dx : List (List Float)) (split : ℕ) (threshold : Float) (l : Li
           (walk x₀ dx split threshold l left (visit x₀ dx split (next dx split l v)))
           ∙ sym (ap (λ (u : Float). walkFrom left (n + 1, visit x₀ dx split u)) is)
 
-  -- a walk that stands still, at a probe above the threshold from which the step leads nowhere, makes every probe that is
-  -- left there, and ends there
+  -- a walk that stands still, at a probe above the threshold from which the step leads nowhere, makes every probe that
+  -- is left there, and ends there
   pub rests : (left n : ℕ) (v : Visit) → v ≡ visit x₀ dx split (v .time) → next dx split l v ≡ v .time
       → lt (l .«max_t») (v .time) ≡ false → above x₀ dx split threshold (v .time) ≡ true
       → walkFrom left (n, v) ≡ record { ending = spent v; probes = n + left }

@@ -209,8 +209,8 @@ squaredOffset l = l .offset ⊗ l .offset
 abbrev pub squaredPark : Limits → Float
 squaredPark l = park l ⊗ park l
 
--- what the squared distance has to stay above, from the one at the start: the squared park distance, or the f32 just below
--- the first where that is smaller
+-- what the squared distance has to stay above, from the one at the start: the squared park distance, or the f32 just
+-- below the first where that is smaller
 unfoldable pub thresholdFrom : Limits → Float → Float
 unfolding nextDown
 thresholdFrom l first = smaller (squaredPark l) (nextDown first)
@@ -293,8 +293,8 @@ module _ (x₀ dx : List (List Float)) (split : ℕ) (l : Limits) (allowed : ℕ
     pub start-far : lt (threshold x₀ dx split l) (firstSquared x₀ dx split l) ≡ true
     pub probes-far : Every (λ (u : Float). isFar u ≡ true) probed
 
-  -- a walk's threshold: not below the squared offset, nor above the squared park distance. From a start that is not above
-  -- the latter, to exceed it is to be not below the start's
+  -- a walk's threshold: not below the squared offset, nor above the squared park distance. From a start that is not
+  -- above the latter, to exceed it is to be not below the start's
   pub record Placed : Type 0 where
     pub over-offset : T (le (squaredOffset l) (threshold x₀ dx split l))
     pub under-park : T (le (threshold x₀ dx split l) (squaredPark l))
@@ -304,7 +304,8 @@ module _ (x₀ dx : List (List Float)) (split : ℕ) (l : Limits) (allowed : ℕ
   -- the numbers of an answer; kinds are 0 touching, 1 contact, 2 clear, 3 budget, 4 refused. A refused call has no time
   -- and zero counts; any other, an allowance in its range. Touching: at the start it is at most the squared offset.
   -- Budget: it exceeds the threshold at the time, and every probe allowed was made. After contact and budget it exceeds
-  -- the squared offset at the time. From a start above the squared park distance the walk is the one over that distance.
+  -- the squared offset at the time. From a start above the squared park distance the walk is the one over that
+  -- distance.
   pub record Promised (refusal kind : ℕ) (time : Float) (probes halvings : ℕ) : Type 0 where
     pub number : refusal ≡ walkRefusal x₀ dx split l allowed
     pub probes-counted : probes ≡ length probed

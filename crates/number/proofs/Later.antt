@@ -1,11 +1,11 @@
--- A time with the sign plus, and a step. Where the step is not below zero the computed sum is not below the time, and has
--- the sign plus; where it overflows it is the infinity. Where the step is below zero the sum is not above the time.
+-- A time with the sign plus, and a step. Where the step is not below zero the computed sum is not below the time, and
+-- has the sign plus; where it overflows it is the infinity. Where the step is below zero the sum is not above the time.
 -- Assumes nothing.
 use mathlib.Core.Path.{_≡_, refl, sym, ap, _∙_, subst}
 use mathlib.Core.Bool.{Bool, true, false, cond}
 use Prim.Native.Nat.{ℕ, zero, suc, _+_, _-_, _*_, _^_, _≤_, _<_}
-use native.Mathlib.Nat.{le-trans, le-of-eq, lt-of-not-le, lt-of-le-of-lt, mul-one, mul-le-mul-right, le-add-right, add-mul, mul-pos}
-use native.Mathlib.Nat.{le-of-mul-le-mul-right}
+use native.Mathlib.Nat.{le-trans, le-of-eq, lt-of-not-le, lt-of-le-of-lt, mul-one, mul-le-mul-right, le-add-right}
+use native.Mathlib.Nat.{add-mul, mul-pos, le-of-mul-le-mul-right}
 use native.Mathlib.Omega.{arith}
 use native.Mathlib.Decide.{decLe, decLt}
 use lib.Dec.{T, ltb, ltb→lt}

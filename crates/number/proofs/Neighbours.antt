@@ -51,7 +51,8 @@ above-bits (fin false m e) f h = le-of-lt (bits-lt (fin false m e) (m * 2 ^ shif
 pub some-bits : (x : Float) → T (fits binary32 x) → T (lt zero32 x) → 0 < toBits binary32 x
 unfolding lt ofBits
 some-bits x f a = elim (eq-zero-or-pos (toBits binary32 x)) [
-  | inl e ↦ absurd (subst (λ (y : Float). T (lt zero32 y)) (sym (ofBits-toBits binary32 x f) ∙ ap (ofBits binary32) e) a)
+  | inl e ↦ absurd
+      (subst (λ (y : Float). T (lt zero32 y)) (sym (ofBits-toBits binary32 x f) ∙ ap (ofBits binary32) e) a)
   | inr l ↦ l
 ]
 

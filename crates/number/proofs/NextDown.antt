@@ -1,5 +1,5 @@
--- The next f32 down (`nextDown`, specs/Number.antt) from a finite number above zero: the next up from there is that number
--- again, so it is below it, and the greatest below. Assumes nothing.
+-- The next f32 down (`nextDown`, specs/Number.antt) from a finite number above zero: the next up from there is that
+-- number again, so it is below it, and the greatest below. Assumes nothing.
 use mathlib.Core.Path.{_≡_, sym, ap, _∙_, subst}
 use mathlib.Core.Bool.{Bool, true, false, cond}
 use Prim.Native.Nat.{ℕ, suc, _-_, _<_}

@@ -104,7 +104,8 @@ quotient-up (fin true m e) (inf false) h k n = tt
 quotient-up (fin false m e) (inf false) h k n = tt
 quotient-up (fin s m e) (fin true b d) h k n = absurd k
 quotient-up (fin false m e) (fin false b d) h k n =
-    plus-up (div binary32 (fin false m e) (fin false b d)) (quotient-plus (fin false m e) (fin false b d) tt (positive-of (fin false b d) k tt) tt)
+    plus-up (div binary32 (fin false m e) (fin false b d))
+    (quotient-plus (fin false m e) (fin false b d) tt (positive-of (fin false b d) k tt) tt)
 quotient-up (fin true m e) (fin false b d) h k n = go (eqb b 0) (eqb→eq b 0)
   where
     none : (a c : ℕ) → a * 1 + 0 * 1 * c ≤ 0 → a ≡ 0

@@ -43,9 +43,9 @@
 //!   a clear move, or of a move that another pair's time cuts, a pair may be anywhere from dip up, and the next call
 //!   may find it in the band: beyond the offset, and not beyond park.
 //! - **A pair that starts in the band is held to its first distance in place of park**: no time that is tried may be
-//!   nearer than the start. At dip or nearer its steps are zero, unless coordinates are coarse beside the distance: it is
-//!   answered [`Answer::Budget`] at 0 and cannot move, not even apart. Ask with a smaller clearance for this pair: at
-//!   most half of its distance less the offset keeps the start beyond park, rounding aside.
+//!   nearer than the start. At dip or nearer its steps are zero, unless coordinates are coarse beside the distance: it
+//!   is answered [`Answer::Budget`] at 0 and cannot move, not even apart. Ask with a smaller clearance for this pair:
+//!   at most half of its distance less the offset keeps the start beyond park, rounding aside.
 //! - **Centring and scaling** ([`scale_pair`]) change the limits of a pair, too.
 //! - **A preview** tries fewer times ([`Limits::allowing`], [`safe_times_allowing`]). Any answer but
 //!   [`Answer::Budget`] is then the last word, and no time is after that of the whole call.
@@ -186,13 +186,13 @@ impl From<Limits> for Allowing {
 /// start beyond park, and never below offset². Nothing is said of d at a time that was not tried.
 #[derive(Clone, Copy, Debug, PartialEq)]
 pub enum Answer {
-    /// At the start d is at most offset². The time is 0 whatever the displacements are, also where the pair moves apart,
-    /// and asking again answers the same: such a pair is parted by other means, or left out.
+    /// At the start d is at most offset². The time is 0 whatever the displacements are, also where the pair moves
+    /// apart, and asking again answers the same: such a pair is parted by other means, or left out.
     Touching,
     /// d exceeds the threshold at this time, and at the next `f32` it does not.
     Contact(f32),
-    /// d exceeds the threshold at the start and at every time that was tried. The time is the time limit, which need not
-    /// be one of them: the pair may end nearer than park, and nearer than it starts.
+    /// d exceeds the threshold at the start and at every time that was tried. The time is the time limit, which need
+    /// not be one of them: the pair may end nearer than park, and nearer than it starts.
     Clear(f32),
     /// d exceeds the threshold at this time, and as many probes are counted as are allowed: 4,096, or those of an
     /// [`Allowing`].

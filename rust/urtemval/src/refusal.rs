@@ -5,8 +5,8 @@ use std::fmt;
 
 /// Why a call is refused. Each has the number that the rules (docs/01-scope.md, "Refusal numbers") give it.
 ///
-/// The lowest number that applies is answered, except that 6, 7 and 8 come as a root finder meets them. 3 is retired: no
-/// call answers it, and it will not stand for anything else.
+/// The lowest number that applies is answered, except that 6, 7 and 8 come as a root finder meets them. 3 is retired:
+/// no call answers it, and it will not stand for anything else.
 #[derive(Clone, Copy, Debug, PartialEq, Eq, Hash, PartialOrd, Ord)]
 #[repr(u32)]
 pub enum Refusal {

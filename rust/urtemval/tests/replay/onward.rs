@@ -1,6 +1,6 @@
 //! A solver's next call: where a contact or a budget leaves a pair, it is asked once more, with the same limits and the
-//! opposite move. The pair is not within the offset there, so it is neither refused nor touching; and where it started in
-//! the band it is no nearer than it started (docs/GUARANTEES.md).
+//! opposite move. The pair is not within the offset there, so it is neither refused nor touching; and where it started
+//! in the band it is no nearer than it started (docs/GUARANTEES.md).
 
 use urtemval::{safe_times, squared_distance, Answer, Points, Query, Refusal, SafeTime};
 

@@ -16,7 +16,8 @@ module _ (c : tie.After-touches) where
   abbrev a : tie.Start
   a = c .before .before
 
-  as-touches : (b : Bool) → c .touches .result ≡ b → touches (a .args .x0) (a .args .dx) (a .args .split) (a .args .l) ≡ b
+  as-touches : (b : Bool) → c .touches .result ≡ b
+      → touches (a .args .x0) (a .args .dx) (a .args .split) (a .args .l) ≡ b
   unfolding firstSquared
   as-touches b e =
       ap (λ (n : Nearest). le (n .squared) (squaredOffset (a .args .l))) (sym (c .before .nearest .ensures))
@@ -40,8 +41,8 @@ returns-2 c =
     c .walk .ensures
     ∙ ap (λ (t : Float). countedFrom 0 (walk (a .x0) (a .dx) (a .split) t (a .l) (a .allowance)
     (record { time = zero32; points = a .x0; near = n .nearest .result }))) (c .before .threshold .ensures)
-    ∙ ap (λ (near : Nearest). countedFrom 0 (walk (a .x0) (a .dx) (a .split) (thresholdFrom (a .l) (near .squared)) (a .l)
-    (a .allowance) (record { time = zero32; points = a .x0; near = near }))) (n .nearest .ensures)
+    ∙ ap (λ (near : Nearest). countedFrom 0 (walk (a .x0) (a .dx) (a .split) (thresholdFrom (a .l) (near .squared))
+    (a .l) (a .allowance) (record { time = zero32; points = a .x0; near = near }))) (n .nearest .ensures)
     ∙ ap (countedFrom 0)
     (sym (safe-walks (a .x0) (a .dx) (a .split) (a .l) (a .allowance) (n .before .pre)
     (as-touches t false (c .before .before .if1 .left))))

@@ -33,8 +33,8 @@ record Probed (x₀ dx : List (List Float)) (split : ℕ) (threshold : Float) (v
   far : above x₀ dx split threshold (v .time) ≡ true
   fit : T (fits binary32 (v .time))
 
--- what the walk from here tells, after the probes made, is what the whole walk tells; and after the first turn a probe was
--- made here
+-- what the walk from here tells, after the probes made, is what the whole walk tells; and after the first turn a probe
+-- was made here
 abbrev Inv-loop : tie.InvT-loop
 Inv-loop x0 dx split threshold l allowance time₀ x₀ near₀ probes₀ time x near probes =
     Capped (walkFrom x0 dx split threshold l) allowance
@@ -101,7 +101,8 @@ returns-2 c =
     counted _ (probes n) (a .allowance) _ _ (c .spent .ensures) (test .if2 .taken)
     (sym (spends (a .x0) (a .dx) (a .split) (a .threshold) (a .l) (probes n) (here n) (time n) (n .next-time .ensures)
     (test .before .if1 .left))
-    ∙ capped-spent (run n) (a .allowance) _ (probes n) _ (n .before .loop .inv .0) (λ m. omega (arith, test .if2 .taken)))
+    ∙ capped-spent (run n) (a .allowance) _ (probes n) _ (n .before .loop .inv .0)
+    (λ m. omega (arith, test .if2 .taken)))
 
 -- the step from a probe leads nowhere
 module _ (c : tie.After-spent2 Inv-loop μ-loop) where
@@ -165,7 +166,8 @@ module _ (c : tie.After-nearest Inv-loop μ-loop) where
   abbrev visited : Visit
   visited = at (time stepped) (c .before .add-scaled .result) (c .nearest .result)
 
-  visited-is : visited ≡ visit (call stepped .args .x0) (call stepped .args .dx) (call stepped .args .split) (time stepped)
+  visited-is : visited
+      ≡ visit (call stepped .args .x0) (call stepped .args .dx) (call stepped .args .split) (time stepped)
   visited-is i = at (time stepped) (c .before .add-scaled .ensures i) (at-time i)
 
   time-fits : T (fits binary32 (time stepped))
