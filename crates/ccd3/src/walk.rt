@@ -1,7 +1,9 @@
 // The walk from a start above the threshold (ccd3.rs: the loops of `maximum_safe_time_accurate`), for any threshold and
 // any number of probes allowed.
 ghost use mathlib.Core.Path.{_≡_};
+ghost use lib.Dec.{eqb};
 ghost use Rattle.number.specs.Number.{zero32};
+ghost use Rattle.number.specs.Pattern.{bitsOf};
 ghost use Rattle.ccd3.specs.SafeTime as Def;
 ghost use Rattle.ccd3.specs.Inner as Inner;
 ghost use Rattle.ccd3.specs.declared.Answer.the-variants.{Budget};
@@ -39,6 +41,17 @@ fn spent(time: f32, allowance: u32) -> Counted
     Counted {
         ending: budget,
         probes: allowance,
+    }
+}
+
+// Whether a step leads nowhere: the next time has the bits of this one. Most times it is later, which is asked first.
+fn stays(time: f32, next: f32) -> bool
+    ensures { λ r. ⌜ r ≡ eqb (bitsOf next) (bitsOf time) ⌝ }
+{
+    if time < next {
+        false
+    } else {
+        bits_of(next) == bits_of(time)
     }
 }
 
@@ -95,7 +108,7 @@ pub(crate) fn walk(
         if probes == allowance {
             return spent(time, allowance);
         }
-        if (0 < probes) & (bits_of(next) == bits_of(time)) {
+        if (0 < probes) & stays(time, next) {
             return spent(time, allowance);
         }
         probes += 1;

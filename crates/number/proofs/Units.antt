@@ -141,11 +141,13 @@ pub pattern-is : (x : Float) (u : ℕ) → T (plus x) → Is x u → toBits bina
 unfolding toBits
 pattern-is (fin false m e) u p h = ap pattern (ap (λ (y : ℕ). y / down e) h ∙ mul-div-cancel u (down-pos e))
 
+-- any float is told by its pattern
+pub same-bits : (x y : Float) → T (fits binary32 x) → T (fits binary32 y) → toBits binary32 x ≡ toBits binary32 y → x ≡ y
+same-bits x y f g e = sym (ofBits-toBits binary32 x f) ∙ ap (ofBits binary32) e ∙ ofBits-toBits binary32 y g
+
 pub same-float : (x y : Float) (u : ℕ) → T (fits binary32 x) → T (fits binary32 y) → T (plus x) → T (plus y) → Is x u
     → Is y u → x ≡ y
-same-float x y u f g p q a b =
-    sym (ofBits-toBits binary32 x f) ∙ ap (ofBits binary32) (pattern-is x u p a ∙ sym (pattern-is y u q b))
-    ∙ ofBits-toBits binary32 y g
+same-float x y u f g p q a b = same-bits x y f g (pattern-is x u p a ∙ sym (pattern-is y u q b))
 
 -- ---- what is not below zero and not above something finite is finite
 pub of-range : (x y : Float) (v : ℕ) → T (fits binary32 x) → T (le zero32 x) → T (le x y) → Is y v

@@ -5,12 +5,12 @@ use mathlib.Core.List.{List}
 use Prim.Native.Nat.{ℕ, _+_, _-_, _<_}
 use native.Mathlib.Omega.{arith}
 use borrow.Author.Needs.{needs}
-use lib.Dec.{T, ltb, eqb, ltb→lt, eqb→eq}
-use lib.Ieee.{Float, binary32, lt, fits, ofBits, toBits}
-use lib.Ieee.Bits.{ofBits-toBits}
+use lib.Dec.{T, ltb, ltb→lt, eqb→eq}
+use lib.Ieee.{Float, binary32, lt, fits, toBits}
 use lib.Ieee.Fits.{and-l, and-r}
 use Rattle.number.specs.Number.{zero32}
 use Rattle.number.proofs.Capped.{Capped, capped-start, capped-spent, capped-ends, capped-goes-on}
+use Rattle.number.proofs.Units.{same-bits}
 use Rattle.distance.specs.Distance.{nearestOf}
 use Rattle.distance.specs.declared.candidate.Nearest.{Nearest}
 use Rattle.ccd3.specs.declared.Ending.{Ending}
@@ -107,10 +107,9 @@ returns-2 c =
 -- the step from a probe leads nowhere
 module _ (c : tie.After-spent2 Inv-loop μ-loop) where
   abbrev stuck : tie.After-next-time Inv-loop μ-loop
-  stuck = c .before .before .before .before .before .before .before
+  stuck = c .before .before .before .before .before .before
 
-  both : T (ltb 0 (probes stuck)
-      && eqb (c .before .before .before .bits-of .result) (c .before .before .bits-of2 .result))
+  both : T (ltb 0 (probes stuck) && c .before .before .stays .result)
   both = subst T (sym (c .before .if3 .taken)) tt
 
   probed : Probed (call stuck .args .x0) (call stuck .args .dx) (call stuck .args .split) (call stuck .args .threshold)
@@ -120,20 +119,15 @@ module _ (c : tie.After-spent2 Inv-loop μ-loop) where
   -- the next time is this one
   stays : next (call stuck .args .dx) (call stuck .args .split) (call stuck .args .l) (here stuck) ≡ here stuck .time
   stays =
-      let n = next (call stuck .args .dx) (call stuck .args .split) (call stuck .args .l) (here stuck) in
-      sym (ofBits-toBits binary32 n
-      (next-fits (call stuck .args .dx) (call stuck .args .split) (call stuck .args .l) (here stuck)))
-      ∙ ap (ofBits binary32)
+      same-bits _ (here stuck .time)
+      (next-fits (call stuck .args .dx) (call stuck .args .split) (call stuck .args .l) (here stuck)) (probed .fit)
       (ap (toBits binary32) (sym (stuck .next-time .ensures))
-      ∙ sym (c .before .before .before .bits-of .ensures)
-      ∙ eqb→eq _ _ (and-r (ltb 0 (probes stuck)) _ both)
-      ∙ c .before .before .bits-of2 .ensures)
-      ∙ ofBits-toBits binary32 (here stuck .time) (probed .fit)
+      ∙ eqb→eq _ _ (subst T (c .before .before .stays .ensures) (and-r (ltb 0 (probes stuck)) _ both)))
 
   in-time : lt (call stuck .args .l .«max_t») (here stuck .time) ≡ false
   in-time =
       ap (lt (call stuck .args .l .«max_t»)) (sym (stuck .next-time .ensures ∙ stays))
-      ∙ c .before .before .before .before .before .if1 .left
+      ∙ c .before .before .before .before .if1 .left
 
 returns-3 : tie.Need-returns-3 Inv-loop μ-loop
 returns-3 c =
@@ -148,7 +142,7 @@ returns-3 c =
 -- a probe is made at the new time
 module _ (c : tie.After-nearest Inv-loop μ-loop) where
   abbrev stepped : tie.After-next-time Inv-loop μ-loop
-  stepped = c .before .before .before .before .before .before .before .before
+  stepped = c .before .before .before .before .before .before .before
 
   at-time : c .nearest .result
       ≡ visit (call stepped .args .x0) (call stepped .args .dx) (call stepped .args .split) (time stepped) .near
@@ -160,7 +154,7 @@ module _ (c : tie.After-nearest Inv-loop μ-loop) where
   apart b t = ap (λ (n : Nearest). lt (call stepped .args .threshold) (n .squared)) (sym at-time) ∙ t
 
   more : probes stepped < call stepped .args .allowance
-  more = omega (arith, c .before .before .before .before .before .if2 .left, stepped .before .loop .inv .0 .small)
+  more = omega (arith, c .before .before .before .before .if2 .left, stepped .before .loop .inv .0 .small)
 
   -- the visit there
   abbrev visited : Visit
@@ -176,7 +170,7 @@ module _ (c : tie.After-nearest Inv-loop μ-loop) where
       (next-fits (call stepped .args .dx) (call stepped .args .split) (call stepped .args .l) (here stepped))
 
   in-limit : lt (call stepped .args .l .«max_t») (time stepped) ≡ false
-  in-limit = c .before .before .before .before .before .before .if1 .left
+  in-limit = c .before .before .before .before .before .if1 .left
 
 returns-4 : tie.Need-returns-4 Inv-loop μ-loop
 returns-4 c =
@@ -206,5 +200,5 @@ pub walk-spec : {M : Type 1} → statement M
 walk-spec =
     tie.close
     (tie.spec Inv-loop μ-loop loop-holds (search needs) (search needs) (search needs) returns
-    (search needs) returns-2 (search needs) (search needs) (search needs) returns-3 (search needs)
+    (search needs) returns-2 (search needs) (search needs) returns-3 (search needs)
     (search needs) (search needs) (search needs) loop-again (search needs) returns-4)
