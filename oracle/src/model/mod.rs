@@ -128,6 +128,17 @@ impl Rules {
     }
 }
 
+/// A number held to low..high. By comparisons, so that a zero keeps its sign whatever a compiler makes of its own clamp.
+fn clamp(x: f32, low: f32, high: f32) -> f32 {
+    if x < low {
+        low
+    } else if high < x {
+        high
+    } else {
+        x
+    }
+}
+
 /// The larger, the first of equals.
 fn larger(a: f32, b: f32) -> f32 {
     if a < b {

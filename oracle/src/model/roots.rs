@@ -1,6 +1,6 @@
 //! Roots of polynomials (docs/01-scope.md, "Roots").
 
-use super::{admission::Admission, plus_zero, Refusal, Rules};
+use super::{admission::Admission, clamp, plus_zero, Refusal, Rules};
 use crate::cover::{met, Branch};
 
 /// From c0 up.
@@ -171,9 +171,9 @@ impl Rules {
             Branch::LinearBelow
         });
         Ok(Roots::default().with(match self.linear {
-            Linear::TimesRange => (fraction * t).clamp(0.0, t),
+            Linear::TimesRange => clamp(fraction * t, 0.0, t),
             Linear::Alone => fraction,
-            Linear::HeldFirst => fraction.clamp(0.0, t) * t,
+            Linear::HeldFirst => clamp(fraction, 0.0, t) * t,
         }))
     }
 
