@@ -33,9 +33,10 @@
  *   or a second question from the moved points with what is left of the move. Budgets come where steps are short: u_max
  *   is far above the pair's own speed, or the clearance is tiny beside the way that the pair makes near park. After
  *   urtemval_safe_time_allowing with a small allowance, ask again with a larger one: the time does not fall.
- * - budget at 0: most often the pair starts at dip or nearer, where steps are zero. It cannot move, not even apart, and
- *   asking again answers the same. Ask with a smaller clearance for this pair: at most half of its distance less the
- *   offset keeps the start beyond park, rounding aside, and what is promised is promised with that park.
+ * - budget at 0: most often the pair starts at dip or nearer, where steps are zero, unless coordinates are coarse
+ *   beside the distance. It cannot move, not even apart, and asking again answers the same. Ask with a smaller
+ *   clearance for this pair: at most half of its distance less the offset keeps the start beyond park, rounding
+ *   aside, and what is promised is promised with that park.
  * - touching: the time is 0 and stays 0. Part the pair by other means, or leave it out and answer for it yourself.
  * - refused by 1: a point, a displacement or a limit is NaN or infinite. Mend what made it, and do not move by it.
  * - refused by 2: the split is neither 2 nor 3, or a number is outside its range. Coordinates beyond 2^20: centre the
