@@ -10,7 +10,7 @@ use lib.Ieee.Fits.{add-fits, mul-fits, div-fits}
 use lib.Ieee.Bits.{ofBits-fits}
 use lib.Ieee.Scale.{finite}
 use Rattle.number.specs.Number.{_⊕_, _⊖_, _⊗_, _⊘_, zero32, one32, largest32, smaller, larger, rootOf}
-use Rattle.number.proofs.Choice.{larger-keeps, smaller-keeps}
+use Rattle.number.proofs.Choice.{larger-keeps, smaller-keeps, smaller-by}
 use Rattle.number.proofs.Comparing.{not-lt-le}
 use Rattle.number.proofs.Later.{later-any, earlier}
 use Rattle.number.proofs.Largest.{larger-reaches}
@@ -45,18 +45,12 @@ module _ (x dx : List (List Float)) (a : Aim) where
 
   -- a time to park that takes the least one's place is not below zero
   time-up : (left speed least : Float) → T (lt zero32 speed) → Up least → Up (smaller least (timeToPark a left speed))
-  unfolding smaller timeToPark
-  time-up left speed least h k = go (lt time least) (λ t. no-nan-lt time least t .0)
-    where
-      rest : Float
-      rest = left ⊖ a .park ⊗ a .norm
-
-      time : Float
-      time = larger rest zero32 ⊘ speed
-
-      go : (b : Bool) → (T b → T (not (isNan time))) → Up (cond b time least)
-      go true n = quotient-up (larger rest zero32) speed (larger-reaches rest zero32) h (n tt)
-      go false n = k
+  unfolding timeToPark
+  time-up left speed least h k =
+      let rest = left ⊖ a .park ⊗ a .norm in
+      let time = larger rest zero32 ⊘ speed in
+      smaller-by Up least time
+      (λ t. quotient-up (larger rest zero32) speed (larger-reaches rest zero32) h (no-nan-lt time least t .0)) (λ n. k)
 
   time-fits : (left speed : Float) → F (timeToPark a left speed)
   unfolding timeToPark

@@ -2,18 +2,18 @@
 -- the first, not below the squared offset and not above the squared park distance, which it is where the first is above
 -- that; elsewhere what is above it is what is not below the first. Assumes nothing.
 use mathlib.Core.Path.{_≡_, refl, sym, subst}
-use mathlib.Core.Bool.{Bool, true, false, not, cond}
+use mathlib.Core.Bool.{Bool, true, false, not}
 use Prim.Native.Nat.{ℕ, _+_, _*_, _^_, _≤_, _<_}
 use native.Mathlib.Nat.{le-trans, le-of-eq, lt-of-le-of-lt, one-mul, mul-le-mul, mul-le-mul-right}
 use native.Mathlib.Omega.{arith}
 use lib.Dec.{T, not-T, lit<, lit≤}
 use lib.Pow.{pow-pos}
-use lib.Ieee.{Float, binary32, fits, lt, le, isNan}
+use lib.Ieee.{Float, binary32, fits, lt, le}
 use lib.Ieee.Bits.{is-true}
 use lib.Ieee.Fits.{and-l, mul-fits}
 use Rattle.number.specs.Number.{_⊗_, zero32, smaller, nextDown, bound, zeroToBound}
-use Rattle.number.proofs.Choice.{smaller-keeps}
-use Rattle.number.proofs.Comparing.{not-lt-le, le-self, lt-le}
+use Rattle.number.proofs.Choice.{smaller-keeps, smaller-by}
+use Rattle.number.proofs.Comparing.{not-lt-le, not-le-lt, le-self, lt-le}
 use Rattle.number.proofs.Later.{grows}
 use Rattle.number.proofs.NextDown.{next-down-below, next-down-greatest}
 use Rattle.number.proofs.NoNan.{no-nan-lt, no-nan-le}
@@ -30,14 +30,6 @@ use Rattle.admission.specs.declared.Limits.{Limits}
 use Rattle.ccd3.specs.SafeTime.{park, squaredOffset, squaredPark, thresholdFrom}
 use Rattle.ccd3.proofs.Growth.{Sound}
 use Rattle.ccd3.proofs.PlainStep.{Given, offset-within}
-
--- what is not above is below
-not-le-lt : (x y : Float) → T (not (isNan x)) → T (not (isNan y)) → le x y ≡ false → lt y x ≡ true
-not-le-lt x y p q e = go (lt y x) refl
-  where
-    go : (b : Bool) → lt y x ≡ b → lt y x ≡ true
-    go true h = h
-    go false h = absurd (subst T e (not-lt-le y x q p (subst (λ (c : Bool). T (not c)) (sym h) tt)))
 
 -- ---- the squared offset is not above the squared park distance
 -- a rounded number is not above a power of two that the exact one is not above
@@ -76,9 +68,8 @@ module _ (l : Limits) (g : Given l) (d : Float) (s : Sound d) (apart : le d (squ
 
   above-offset : T (lt (squaredOffset l) d)
   above-offset =
-      subst T
-      (sym (not-le-lt d (squaredOffset l) (no-nan-le zero32 d (plus-up d (s .sign)) .1)
-      (no-nan-le zero32 (squaredOffset l) offset-up .1) apart)) tt
+      not-le-lt d (squaredOffset l) (no-nan-le zero32 d (plus-up d (s .sign)) .1)
+      (no-nan-le zero32 (squaredOffset l) offset-up .1) (subst (λ (b : Bool). T (not b)) (sym apart) tt)
 
   above-zero : T (lt zero32 d)
   above-zero = le-lt-trans zero32 (squaredOffset l) d offset-up above-offset
@@ -101,29 +92,27 @@ module _ (l : Limits) (g : Given l) (d : Float) (s : Sound d) (apart : le d (squ
 
   -- by whether the f32 just below d is below the squared park distance
   by-order : (P : Float → Type 0) → (T (lt (nextDown d) (squaredPark l)) → P (nextDown d))
-      → (T (le (squaredPark l) (nextDown d)) → P (squaredPark l)) → P (thresholdFrom l d)
-  unfolding thresholdFrom smaller
-  by-order P h k = go (lt (nextDown d) (squaredPark l)) refl
-    where
-      go : (b : Bool) → lt (nextDown d) (squaredPark l) ≡ b → P (cond b (nextDown d) (squaredPark l))
-      go true e = h (subst T (sym e) tt)
-      go false e =
-          k (not-lt-le (nextDown d) (squaredPark l) (no-nan-lt (nextDown d) d below .0)
-          (no-nan-le (squaredOffset l) (squaredPark l) (squares-ordered l g) .1)
-          (subst (λ (c : Bool). T (not c)) (sym e) tt))
+      → (T (le (squaredPark l) (nextDown d)) → P (squaredPark l)) → P (smaller (squaredPark l) (nextDown d))
+  by-order P h k =
+      smaller-by P (squaredPark l) (nextDown d) h
+      (λ n. k (not-lt-le (nextDown d) (squaredPark l) (no-nan-lt (nextDown d) d below .0)
+      (no-nan-le (squaredOffset l) (squaredPark l) (squares-ordered l g) .1) n))
 
   pub under-park : T (le (thresholdFrom l d) (squaredPark l))
+  unfolding thresholdFrom
   under-park =
       by-order (λ t. T (le t (squaredPark l))) (lt-le (nextDown d) (squaredPark l))
       (λ h. le-self (squaredPark l) (no-nan-le (squaredPark l) (nextDown d) h .0))
 
   pub under-start : lt (thresholdFrom l d) d ≡ true
+  unfolding thresholdFrom
   under-start =
       is-true (lt (thresholdFrom l d) d)
       (by-order (λ t. T (lt t d)) (λ h. below) (λ h. le-lt-trans (squaredPark l) (nextDown d) d h below))
 
   -- where d is not above the squared park distance, to be above the threshold is to be not below d
   pub in-band : le d (squaredPark l) ≡ true → (e : Float) → T (fits binary32 e) → lt (thresholdFrom l d) e ≡ le d e
+  unfolding thresholdFrom
   in-band h e f =
       same-test (lt (thresholdFrom l d) e) (le d e)
       (λ a. not-lt-le e d (no-nan-lt (thresholdFrom l d) e a .1) (no-nan-lt (nextDown d) d below .1)
@@ -139,6 +128,7 @@ module _ (l : Limits) (g : Given l) (d : Float) (s : Sound d) (apart : le d (squ
 
   -- where d is above the squared park distance, that is the threshold
   pub at-park : lt (squaredPark l) d ≡ true → thresholdFrom l d ≡ squaredPark l
+  unfolding thresholdFrom
   at-park e =
       by-order (λ t. t ≡ squaredPark l)
       (λ h. absurd (lt-not-le (nextDown d) (squaredPark l) h (under (park l) (subst T (sym e) tt)))) (λ h. refl)

@@ -33,7 +33,7 @@ pub(crate) fn unbracketed(answer: Answer, time: f32) -> Ending
     }
 }
 
-// No probe is left.
+// The budget, with all the probes that are allowed.
 fn spent(time: f32, allowance: u32) -> Counted
     ensures { λ r. ⌜ r ≡ record { ending = Def.unbracketed (Budget time) time; probes = allowance } ⌝ }
 {

@@ -1,5 +1,5 @@
 -- `smaller` and `larger` (specs/Number.antt) answer one of their arguments, so they keep whatever holds of both: a bound,
--- a sign, being no NaN. `clamp` to 0..1 lies there. Assumes nothing.
+-- a sign, being no NaN; of the smaller also what its own test gives. `clamp` to 0..1 lies there. Assumes nothing.
 use mathlib.Core.Bool.{Bool, true, false, not, cond}
 use lib.Dec.{T}
 use lib.Ieee.{Float, lt, le, isNan, ofBits}
@@ -18,6 +18,15 @@ larger-keeps P a b p q = pick P (lt a b) b a q p
 pub smaller-keeps : (P : Float → Type 0) (a b : Float) → P a → P b → P (smaller a b)
 unfolding smaller
 smaller-keeps P a b p q = pick P (lt b a) b a q p
+
+-- by the test: the second where it is below the first
+pub smaller-by : (P : Float → Type 0) (a b : Float) → (T (lt b a) → P b) → (T (not (lt b a)) → P a) → P (smaller a b)
+unfolding smaller
+smaller-by P a b h k = go (lt b a) h k
+  where
+    go : (c : Bool) → (T c → P b) → (T (not c) → P a) → P (cond c b a)
+    go true h k = h tt
+    go false h k = k tt
 
 -- ---- clamped to 0..1
 zero-in : T (le zero32 zero32) × T (le zero32 one32)

@@ -5,7 +5,7 @@ use mathlib.Core.Bool.{Bool, true, false, not, _&&_, _||_}
 use Prim.Native.Nat.{ℕ, _+_, _*_, _≤_}
 use native.Mathlib.Nat.{eq-or-lt-of-le, eq-zero-or-pos}
 use native.Mathlib.Omega.{arith}
-use lib.Dec.{T, ltb, eqb, lt→ltb, nltb→le, eqb→eq, eqb-refl}
+use lib.Dec.{T, T-not, ltb, eqb, lt→ltb, nltb→le, eqb→eq, eqb-refl}
 use lib.IntN.{ℤ}
 use lib.Ieee.{Float, inf, fin, up, down, lt, le, eq, isNan, below, level}
 use lib.Ieee.Fits.{and-i, and-l, and-r, eq→eqb}
@@ -70,6 +70,13 @@ not-lt-le (inf false) (fin t n d) p q h = tt
 not-lt-le (fin s m e) (inf true) p q h = tt
 not-lt-le (fin s m e) (inf false) p q h = absurd h
 not-lt-le (fin s m e) (fin t n d) p q h = total-nat s t (m * up e * down d) (n * up d * down e) h
+
+pub not-le-lt : (x y : Float) → T (not (isNan x)) → T (not (isNan y)) → T (not (le x y)) → T (lt y x)
+not-le-lt x y p q h = go (lt y x) (not-lt-le y x q p)
+  where
+    go : (b : Bool) → (T (not b) → T (le x y)) → T b
+    go true k = tt
+    go false k = T-not (le x y) h (k tt)
 
 -- ---- each is not above itself; below is not above
 level-self : (s : Bool) (a : ℕ) → T (level s a s a)

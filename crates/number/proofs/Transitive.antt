@@ -1,6 +1,6 @@
 -- The order of f32 values, infinities, either zero and NaN included: it is transitive, and nothing is below itself.
 -- Assumes nothing.
-use mathlib.Core.Path.{_≡_, refl, sym, ap, _∙_, subst}
+use mathlib.Core.Path.{_≡_, sym, ap, _∙_}
 use mathlib.Core.Logic.{inl, inr}
 use mathlib.Core.Bool.{Bool, true, false, not, _||_}
 use Prim.Native.Nat.{ℕ, _+_, _*_, _≤_, _<_}
@@ -11,7 +11,7 @@ use lib.Dec.{T, eqb, ltb→lt, lt→ltb, eqb→eq, not-T}
 use lib.Ieee.{Float, nan, inf, fin, up, down, lt, le, below, level}
 use lib.Ieee.Fits.{down-pos, and-l, and-r}
 use Rattle.number.proofs.Signs.{le-of-tests}
-use Rattle.number.proofs.Comparing.{lt-le as lt-le-float, not-lt-le}
+use Rattle.number.proofs.Comparing.{lt-le as lt-le-float, not-lt-le, not-le-lt}
 use Rattle.number.proofs.NoNan.{no-nan-lt, no-nan-le}
 
 -- ---- fractions X / p, Y / q, Z / k
@@ -153,10 +153,6 @@ le-le-trans x y z h l =
     (not-T (lt z x) (λ k. lt-not-le y x (le-lt-trans y z x l k) h))
 
 pub lt-le-trans : (x y z : Float) → T (lt x y) → T (le y z) → T (lt x z)
-lt-le-trans x y z h l = go (lt x z) refl
-  where
-    go : (b : Bool) → lt x z ≡ b → T (lt x z)
-    go true e = subst T (sym e) tt
-    go false e =
-        let k = not-lt-le x z (no-nan-lt x y h .0) (no-nan-le y z l .1) (subst (λ (c : Bool). T (not c)) (sym e) tt) in
-        absurd (lt-not-le x y h (le-le-trans y z x l k))
+lt-le-trans x y z h l =
+    not-le-lt z x (no-nan-le y z l .1) (no-nan-lt x y h .0)
+    (not-T (le z x) (λ k. lt-not-le x y h (le-le-trans y z x l k)))
