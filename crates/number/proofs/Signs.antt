@@ -1,5 +1,5 @@
--- Which values have the sign plus, and so are not below zero: squares, and sums, products and quotients of such
--- values. Assumes nothing.
+-- Which values have the sign plus, and so are not below zero: squares, what is above such a value, and sums, products and
+-- quotients of such values; and a quotient that is not below zero whatever the sign of a zero is. Assumes nothing.
 pub use Rattle.number.proofs.Ranges.{power, minus-power, le-of-tests, within-tests}
 pub use Rattle.number.proofs.Quotients.{AtLeast, div-within, eighth-within}
 use mathlib.Core.Path.{_≡_, sym, ap, _∙_, subst}
