@@ -1,6 +1,9 @@
 // The tests of four points and of what callers hand over with them (docs/01-scope.md, "What callers hand over, and the
 // numbers allowed", "Refusal numbers"): 1, some number is NaN or infinite; 2, none is, but one lies beyond its range,
 // the split is neither 2 nor 3, or the allowance is not 1 to 4,096; 0, admitted.
+
+#![tactic(auto)]
+
 ghost use Rattle.std.specs.Prelude.{◌≡◌};
 ghost use Rattle.admission.specs.Admission as Def;
 
@@ -13,7 +16,7 @@ pub mod points;
 
 // What the safe time is asked with, beside the pair and its split.
 #[repr(C)]
-#[derive(Drop)]
+#[derive(Clone, Copy)]
 pub struct Limits {
     pub offset: f32,
     pub clearance: f32,

@@ -1,6 +1,9 @@
 // Answers a stream of calls of the library's public functions (docs/TESTING.md, "The stream"): reads the calls from
 // standard input, block by block, and writes the answers of each block to standard output. Its calls and the answers
 // that it must give are the frozen list (docs/TESTING.md), which tests/freeze makes with the oracle.
+
+#![tactic(auto)]
+
 ghost use Rattle.io.specs.Counts.{IsPrefixLen};
 
 mod calls;

@@ -122,7 +122,7 @@ module _ (x₀ dx : List (List Float)) (split : ℕ) (l : Limits) (g : Ground x�
         let c = halve far 255 0 lower upper in
         let n : c.upper ≡ next_up c.lower =
         next_of c.lower c.upper (finite_is c.lower k.lower.units k.lower.is) k.lower.sign
-        k.upper.fit e.next_up in
+        k.upper.fit e.next_pattern in
         let m = limit_units x₀ dx split l g in
         let a : k.upper.units ≤ b.high.units =
         le_says c.upper upper k.upper.units b.high.units k.upper.is b.high.is k.under in

@@ -7,7 +7,7 @@ use geometry::mat3x4_array_of_cols::add_scaled;
 
 // Where the halving ended: the last time above the threshold and the first that is not, and how many halvings there
 // were.
-#[derive(Drop)]
+#[derive(Clone, Copy)]
 pub(crate) struct Closed {
     pub(crate) lower: f32,
     pub(crate) upper: f32,

@@ -1,7 +1,9 @@
 // The safe time of a pair (ccd3.rs: `directional_advance`, `maximum_safe_time_accurate`).
 
+#![tactic(auto)]
+
 // How a call ends, each case with its time, or a refusal's number.
-#[derive(Drop)]
+#[derive(Clone, Copy)]
 pub enum Answer {
     Touching(f32),
     Contact(f32),
@@ -11,7 +13,7 @@ pub enum Answer {
 }
 
 // The answer, and how many probes and halvings were made.
-#[derive(Drop)]
+#[derive(Clone, Copy)]
 pub struct SafeTime {
     pub answer: Answer,
     pub probes: u32,
@@ -19,7 +21,7 @@ pub struct SafeTime {
 }
 
 // What a directional step is taken along and held against: the direction, its norm, dip, park and the time limit.
-#[derive(Drop)]
+#[derive(Clone, Copy)]
 pub(crate) struct Aim {
     pub(crate) w: [f32; 3],
     pub(crate) norm: f32,
@@ -30,7 +32,7 @@ pub(crate) struct Aim {
 
 // How a walk ends: its answer; the time of the visit from which the last step was taken, and the last time probed; the
 // ends of the last bracket, and how often it was halved. With no bracket its ends are zero; with no walk all is.
-#[derive(Drop)]
+#[derive(Clone, Copy)]
 pub(crate) struct Ending {
     pub(crate) answer: Answer,
     pub(crate) from: f32,
@@ -41,7 +43,7 @@ pub(crate) struct Ending {
 }
 
 // How it ends, and how many probes were made.
-#[derive(Drop)]
+#[derive(Clone, Copy)]
 pub(crate) struct Counted {
     pub(crate) ending: Ending,
     pub(crate) probes: u32,

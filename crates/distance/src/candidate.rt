@@ -6,7 +6,7 @@ use super::segment;
 use geometry::vec3;
 
 // A squared distance, the direction from the first side to the second, and which candidate it was.
-#[derive(Drop)]
+#[derive(Clone, Copy)]
 pub struct Nearest {
     pub squared: f32,
     pub direction: [f32; 3],

@@ -6,7 +6,7 @@ ghost use Rattle.distance.specs.Distance as Def;
 
 use geometry::vec3;
 
-#[derive(Drop)]
+#[derive(Clone, Copy)]
 pub(crate) struct Products {
     pub(crate) a: f32,
     pub(crate) b: f32,

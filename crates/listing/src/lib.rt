@@ -1,5 +1,8 @@
 // The listing of a scene file (docs/01-scope.md, "The listing"), from the bytes of the file to the bytes of the text,
 // which is put into a lent buffer.
+
+#![tactic(auto)]
+
 mod line;
 
 ghost use Rattle.std.specs.Prelude.{◌≡◌, ◌++◌, ◌≤◌, ◌+◌, length, drop};

@@ -8,7 +8,7 @@ use geometry::mat3x4_array_of_cols as columns;
 use number::{order, range};
 
 // The factors of a scaling: how many times 8, the last one, and the product of all.
-#[derive(Drop)]
+#[derive(Clone, Copy)]
 pub(crate) struct Factors {
     pub eights: u32,
     pub last: f32,

@@ -4,7 +4,7 @@ ghost use Rattle.std.specs.Prelude.{◌≡◌};
 // Four points of three numbers each, and as many displacements. Code that the borrow checker covers moves it whole:
 // its parts are read and put together by the three functions below.
 #[repr(C)]
-#[derive(Drop)]
+#[derive(Clone, Copy)]
 pub struct Pair {
     pub x: [[f32; 3]; 4],
     pub dx: [[f32; 3]; 4],

@@ -10,7 +10,7 @@ use crate::record::{self, Pair};
 use number::answer::Answered;
 
 // What the core hands to the function over a lent pair: whether the pair is scaled, the answer, and the pair to store.
-#[derive(Drop)]
+#[derive(Clone, Copy)]
 pub(crate) struct Outcome {
     pub taken: bool,
     pub answer: Answered,
@@ -101,7 +101,7 @@ pub fn normalize_centerized_configuration(pair: &mut Pair, max_t: f32) -> Answer
 }
 
 // A scaling's answer, and the pair that it left.
-#[derive(Drop)]
+#[derive(Clone, Copy)]
 pub struct Scaled {
     pub answer: Answered,
     pub pair: Pair,

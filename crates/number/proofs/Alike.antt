@@ -29,6 +29,8 @@ alike_of {x} e = subst (Alike x) e same
 -- alike and both of sign plus are equal
 pub plus_same : {x y : Float} → Alike x y → T (plus x) → T (plus y) → x ≡ y
 plus_same same p q = refl
+plus_same (zeros (zero_of {s = false}) (zero_of {s = true})) p q = elim q [ ]
+plus_same {y = y} (zeros (zero_of {s = true}) _) p q = elim p [ ]
 plus_same (zeros (zero_of {s = false}) (zero_of {s = false})) p q = refl
 
 -- ---- sums

@@ -7,7 +7,7 @@ use native.Mathlib.Nat.{eq-or-lt_of_le, eq-zero-or-pos}
 use native.Mathlib.Omega.{arith}
 use lib.Dec.{T, T_not, ltb, eqb, lt→ltb, nltb→le, eqb→eq, eqb_refl}
 use lib.IntN.{ℤ}
-use lib.Ieee.{Float, inf, fin, up, down, lt, le, eq, is_nan, below, level}
+use lib.Ieee.{Float, inf, fin, up, down, lt, le, eq, is_nan, below, level, nan}
 use lib.Ieee.Fits.{and_i, and_l, and_r, eq→eqb}
 
 -- ---- tests joined
@@ -61,6 +61,10 @@ total_nat true true a b h = elim (eq-or-lt_of_le (nltb→le b a h)) [
 
 pub not_lt_le : (x y : Float) → T (not (is_nan x)) → T (not (is_nan y)) → T (not (lt x y)) → T (le y x)
 unfolding le is_nan
+not_lt_le nan y p q h = elim p [ ]
+not_lt_le (inf false) nan p q h = elim q [ ]
+not_lt_le (inf true) nan p q h = elim q [ ]
+not_lt_le (fin s m e) nan p q h = elim q [ ]
 not_lt_le (inf true) (inf true) p q h = tt
 not_lt_le (inf true) (inf false) p q h = absurd h
 not_lt_le (inf false) (inf true) p q h = tt
@@ -85,6 +89,7 @@ level_self false a = and_i (eqb a a) true (eqb_refl a) tt
 
 pub le_self : (x : Float) → T (not (is_nan x)) → T (le x x)
 unfolding le is_nan
+le_self nan h = elim h [ ]
 le_self (inf true) h = tt
 le_self (inf false) h = tt
 le_self (fin s m e) h =

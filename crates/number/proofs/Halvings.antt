@@ -22,7 +22,7 @@ pub record Ends (p : Float → Bool) (r : Halved) : Type 0 where
   pub true_below : p r.lower ≡ true
   pub false_above : p r.upper ≡ false
   pub in_order : T (lt r.lower r.upper)
-  pub next_up : to_bits binary32 r.upper ≡ suc (to_bits binary32 r.lower)
+  pub next_pattern : to_bits binary32 r.upper ≡ suc (to_bits binary32 r.lower)
   pub is_next : r.upper ≡ next_up r.lower
   pub none_between : (w : Float) → T (fits binary32 w) → T (lt r.lower w) → T (lt w r.upper) → ⊥
 
@@ -60,7 +60,7 @@ ends_from p (suc k) n lo hi e i =
       true_below = side_lo p lo (midpoint lo hi) i.at_lo;
       false_above = side_hi p hi (midpoint lo hi) i.at_hi;
       in_order = new_lt p n lo hi i;
-      next_up = new_bits p n lo hi i (none t);
+      next_pattern = new_bits p n lo hi i (none t);
       is_next =
           next_of (next_lower p lo hi) (next_upper p lo hi)
           (finite_is (next_lower p lo hi) (step p n lo hi i).0 (step p n lo hi i).2.low.is)

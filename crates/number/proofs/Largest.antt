@@ -5,7 +5,7 @@ use mathlib.Core.Bool.{Bool, true, false, not, cond}
 use Prim.Native.Nat.{ℕ, ◌*◌, ◌^◌, ◌≤◌}
 use native.Mathlib.Nat.{le_antisymm}
 use lib.Dec.{T, T_not, not_T, nltb→le}
-use lib.Ieee.{Float, inf, fin, binary32, lt, fits}
+use lib.Ieee.{Float, inf, fin, binary32, lt, fits, nan}
 use Rattle.number.specs.Number.{larger}
 use Rattle.number.proofs.Units.{plus, shift, fin_false, same_float, Is, lt_is}
 use Rattle.number.proofs.Signs.{above_plus}
@@ -46,6 +46,15 @@ larger_plus x y p = go (lt x y) (above_plus x y p)
 pub plus_level : (x y : Float) → T (fits binary32 x) → T (fits binary32 y) → T (plus x) → T (plus y) → NotBelow x y
     → NotBelow y x → x ≡ y
 unfolding lt
+plus_level nan y f g p q h k = elim p [ ]
+plus_level (inf false) nan f g p q h k = elim q [ ]
+plus_level (inf false) (inf true) f g p q h k = elim q [ ]
+plus_level (inf false) (fin true n d) f g p q h k = elim q [ ]
+plus_level (inf true) y f g p q h k = elim p [ ]
+plus_level (fin false m e) nan f g p q h k = elim q [ ]
+plus_level (fin false m e) (inf true) f g p q h k = elim q [ ]
+plus_level (fin false m e) (fin true n d) f g p q h k = elim q [ ]
+plus_level (fin true m e) y f g p q h k = elim p [ ]
 plus_level (inf false) (inf false) f g p q h k = refl
 plus_level (inf false) (fin false n d) f g p q h k = absurd h
 plus_level (fin false m e) (inf false) f g p q h k = absurd k

@@ -46,12 +46,19 @@ later t s u v k p q h = (
 -- ---- with overflow, and with an infinite step
 le_inf : (t : Float) → T (finite t) → T (le t (inf false))
 unfolding le
+le_inf nan f = elim f [ ]
+le_inf (inf _) f = elim f [ ]
 le_inf (fin s m e) f = tt
 
 -- the sum as one rounding
 add_round : (x y : Float) (u v : ℕ) → T (plus x) → Is x u → Is y v
     → (num : ℕ) × (den : ℕ) × (0 < den) × (num * L ≡ (u + v) * den)
     × (add binary32 x y ≡ round binary32 false num den)
+add_round nan y u v k p q = elim k [ ]
+add_round (inf _) y u v k p q = elim p [ ]
+add_round (fin false m e) nan u v k p q = elim q [ ]
+add_round (fin false m e) (inf _) u v k p q = elim q [ ]
+add_round (fin true m e) y u v k p q = elim k [ ]
 add_round (fin false m e) (fin t n d) u v k p q =
     let A = m * up e * down d in
     let B = n * up d * down e in
@@ -99,6 +106,8 @@ no_minus h = h
 
 add_inf : (t : Float) → T (finite t) → add binary32 t (inf false) ≡ inf false
 unfolding add
+add_inf nan k = elim k [ ]
+add_inf (inf _) k = elim k [ ]
 add_inf (fin s m e) k = refl
 
 -- the law for a walk: t a finite time of sign plus, s any step that is not below zero, an infinite one too
@@ -152,6 +161,11 @@ shrinks u v r =
 pub earlier : (t s : Float) → T (fits binary32 t) → T (finite t) → T (plus t) → T (fits binary32 s) → T (finite s)
     → T (lt s zero32) → T (le (add binary32 t s) t)
 unfolding lt of_bits
+earlier nan s f k p g j h = elim k [ ]
+earlier (inf _) s f k p g j h = elim k [ ]
+earlier (fin false m e) nan f k p g j h = elim j [ ]
+earlier (fin false m e) (inf _) f k p g j h = elim j [ ]
+earlier (fin true m e) s f k p g j h = elim p [ ]
 earlier (fin false m e) (fin false n d) f k p g j h =
     absurd (none (n * up d) (down d) (ltb→lt (n * up d * 1) (0 * 1 * down d) h))
   where

@@ -29,6 +29,8 @@ pattern_lt u h = fit (size u - 24) (u / 2 ^ (size u - 24)) (few (size u) (size-l
     fit k q a b = omega arith
 
 is_unique : (x : Float) (u v : ℕ) → Is x u → Is x v → u ≡ v
+is_unique nan u v p q = elim p [ ]
+is_unique (inf _) u v p q = elim p [ ]
 is_unique (fin false m e) u v p q = eq_of_mul-eq-mul_right (down e) (down_pos e) u v (sym p ∙ q)
 is_unique (fin true m e) u v p q = p.1 ∙ sym q.1
 
@@ -45,6 +47,9 @@ module _ (x : Float) (u : ℕ) (f : T (fits binary32 x)) (p : T (plus x)) (i : U
 -- one above zero has a pattern above 0, and not above the infinity's
 pub above_bits : (x : Float) → T (fits binary32 x) → T (lt zero32 x) → to_bits binary32 x ≤ inf_bits
 unfolding lt of_bits
+above_bits nan f h = elim h [ ]
+above_bits (inf true) f h = elim h [ ]
+above_bits (fin true m e) f h = elim h [ ]
 above_bits (inf false) f h = unfold to_bits in le_refl inf_bits
 above_bits (fin false m e) f h = le_of_lt (bits_lt (fin false m e) (m * 2 ^ shift e) f tt (fin_false m e f))
 
@@ -61,6 +66,12 @@ some_bits x f a = elim (eq-zero-or-pos (to_bits binary32 x)) [
 pub after : (x w : Float) (u : ℕ) → Is x u → T (fits binary32 w) → T (finite w) → T (lt x w)
     → T (plus w) × ((r : ℕ) × Unit32 w r)
 unfolding lt
+after nan w u p f k a = elim p [ ]
+after (inf _) w u p f k a = elim p [ ]
+after (fin false m e) nan u p f k a = elim k [ ]
+after (fin false m e) (inf _) u p f k a = elim k [ ]
+after (fin true m e) nan u p f k a = elim k [ ]
+after (fin true m e) (inf _) u p f k a = elim k [ ]
 after (fin false m e) (fin false n d) u p f k a = (tt, (n * 2 ^ shift d, fin_false n d f))
 after (fin false m e) (fin true n d) u p f k a = absurd a
 after (fin true m e) (fin false n d) u p f k a = (tt, (n * 2 ^ shift d, fin_false n d f))
@@ -73,6 +84,10 @@ after (fin true m e) (fin true n d) u p f k a =
 
 pub below_finite : (x w y : Float) (u v : ℕ) → Is x u → Is y v → T (lt x w) → T (lt w y) → T (finite w)
 unfolding lt
+below_finite nan w y u v p q a b = elim p [ ]
+below_finite (inf _) w y u v p q a b = elim p [ ]
+below_finite (fin s m e) (inf false) nan u v p q a b = elim q [ ]
+below_finite (fin s m e) (inf false) (inf _) u v p q a b = elim q [ ]
 below_finite (fin s m e) nan y u v p q a b = a
 below_finite (fin s m e) (inf true) y u v p q a b = a
 below_finite (fin s m e) (inf false) (fin t n d) u v p q a b = b

@@ -5,7 +5,7 @@ use mathlib.Core.Bool.{Bool, true, false, cond}
 use Prim.Native.Nat.{ℕ, suc, ◌-◌, ◌<◌}
 use native.Mathlib.Omega.{arith}
 use lib.Dec.{T, not_T}
-use lib.Ieee.{Float, fin, binary32, fits, lt, le, to_bits, of_bits}
+use lib.Ieee.{Float, fin, binary32, fits, lt, le, to_bits, of_bits, inf, nan}
 use lib.Ieee.Bits.{is_true, of_bits-fits}
 use lib.Ieee.Exact.{HasValue}
 use lib.Ieee.Scale.{finite}
@@ -23,6 +23,8 @@ unfolding of_bits
 zero_plus = tt
 
 plus_value : (x : Float) (u : ℕ) → HasValue x false u L → T (plus x)
+plus_value nan u v = elim v [ ]
+plus_value (inf _) u v = elim v [ ]
 plus_value (fin false m e) u v = tt
 plus_value (fin true m e) u v = subst (λ (s : Bool). T s) v.0 tt
 

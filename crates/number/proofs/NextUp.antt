@@ -7,7 +7,7 @@ use native.Mathlib.Nat.{le_of_eq, lt_of_le_of_lt}
 use native.Mathlib.Omega.{arith}
 use lib.Dec.{T}
 use lib.IntN.{ℤ}
-use lib.Ieee.{Float, fin, binary32, fits, lt, to_bits, of_bits}
+use lib.Ieee.{Float, fin, binary32, fits, lt, to_bits, of_bits, inf, nan}
 use lib.Ieee.Bits.{of_bits-to_bits}
 use lib.Ieee.Scale.{finite}
 use Rattle.number.specs.Number.{next_up, inf_bits}
@@ -22,6 +22,9 @@ zero_pattern e = pattern_is (fin false 0 e) 0 tt (none_is e)
 
 pub next_up_is : (x : Float) → T (finite x) → T (plus x) → next_up x ≡ of_bits binary32 (suc (to_bits binary32 x))
 unfolding next_up
+next_up_is nan f p = elim f [ ]
+next_up_is (inf _) f p = elim f [ ]
+next_up_is (fin mathlib.Core.Bool.true _ e) f p = elim p [ ]
 next_up_is (fin false zero e) f p = ap (λ (b : ℕ). of_bits binary32 (suc b)) (sym (zero_pattern e))
 next_up_is (fin false (suc m) e) f p = refl
 

@@ -27,6 +27,9 @@ no_nan_ne (fin s m e) h = tt
 -- any comparison that holds
 pub no_nan_lt : (x y : Float) → T (lt x y) → T (not (is_nan x)) × T (not (is_nan y))
 unfolding lt is_nan
+no_nan_lt nan y h = elim h [ ]
+no_nan_lt (inf s) nan h = elim h [ ]
+no_nan_lt (fin s m e) nan h = elim h [ ]
 no_nan_lt (inf s) (inf t) h = (tt, tt)
 no_nan_lt (inf s) (fin t n d) h = (tt, tt)
 no_nan_lt (fin s m e) (inf t) h = (tt, tt)
@@ -34,6 +37,9 @@ no_nan_lt (fin s m e) (fin t n d) h = (tt, tt)
 
 pub no_nan_le : (x y : Float) → T (le x y) → T (not (is_nan x)) × T (not (is_nan y))
 unfolding le is_nan
+no_nan_le nan y h = elim h [ ]
+no_nan_le (inf s) nan h = elim h [ ]
+no_nan_le (fin s m e) nan h = elim h [ ]
 no_nan_le (inf s) (inf t) h = (tt, tt)
 no_nan_le (inf s) (fin t n d) h = (tt, tt)
 no_nan_le (fin s m e) (inf t) h = (tt, tt)
@@ -42,6 +48,8 @@ no_nan_le (fin s m e) (fin t n d) h = (tt, tt)
 -- what is finite
 pub no_nan_finite : (x : Float) → T (finite x) → T (not (is_nan x))
 unfolding is_nan
+no_nan_finite nan f = elim f [ ]
+no_nan_finite (inf _) f = elim f [ ]
 no_nan_finite (fin s m e) f = tt
 
 -- ---- what is rounded
@@ -66,6 +74,10 @@ round_no_nan s a c =
 -- ---- a quotient, where the divisor is finite and above zero
 pub div_no_nan : (x y : Float) → T (finite x) → T (finite y) → T (lt zero32 y) → T (not (is_nan (div binary32 x y)))
 unfolding div lt of_bits
+div_no_nan nan y f g h = elim f [ ]
+div_no_nan (inf _) y f g h = elim f [ ]
+div_no_nan (fin s m e) nan f g h = elim g [ ]
+div_no_nan (fin s m e) (inf _) f g h = elim g [ ]
 div_no_nan (fin s m e) (fin true n d) f g h = absurd h
 div_no_nan (fin s m e) (fin false n d) f g h = go (eqb n 0) (eqb→eq n 0)
   where

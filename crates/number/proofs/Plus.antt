@@ -5,7 +5,7 @@ use Prim.Native.Nat.{ℕ, zero, suc, ◌+◌, ◌-◌, ◌*◌, ◌^◌}
 use lib.Dec.{T, ltb}
 use lib.IntN.{ℤ}
 use lib.Ieee.Order.{drop, kept}
-use lib.Ieee.{Float, inf, fin, binary32, up, down, round, units, odd, add, mul, of_bits}
+use lib.Ieee.{Float, inf, fin, binary32, up, down, round, units, odd, add, mul, of_bits, nan}
 use lib.Ieee.Fits.{round_is}
 use Rattle.number.specs.Number.{half32, midpoint}
 use Rattle.number.proofs.Units.{L, Is, plus, no_size}
@@ -31,6 +31,11 @@ round_plus a c =
     (units_plus (kept 24 (a * L) c) (drop 24 (a * L) c))
 
 pub add_plus : (x y : Float) (u v : ℕ) → Is x u → Is y v → T (plus x) → T (plus (add binary32 x y))
+add_plus nan y u v p q h = elim p [ ]
+add_plus (inf _) y u v p q h = elim p [ ]
+add_plus (fin false m e) nan u v p q h = elim q [ ]
+add_plus (fin false m e) (inf _) u v p q h = elim q [ ]
+add_plus (fin true m e) y u v p q h = elim h [ ]
 add_plus (fin false m e) (fin false n d) u v p q h =
     subst (λ (z : Float). T (plus z))
     (sym (add_opens false m e false n d ∙ sum_ff (m * up e * down d) (n * up d * down e) (down e * down d)))
@@ -50,6 +55,9 @@ half_opens false n d = refl
 
 pub half_plus : (y : Float) → T (plus y) → T (plus (mul binary32 half32 y))
 unfolding mul of_bits
+half_plus nan h = elim h [ ]
+half_plus (inf true) h = elim h [ ]
+half_plus (fin true n d) h = elim h [ ]
 half_plus (inf false) h = tt
 half_plus (fin false n d) h =
     subst (λ (z : Float). T (plus z)) (sym (half_opens false n d)) (round_plus (1 * 1 * (n * up d)) (2 * down d))

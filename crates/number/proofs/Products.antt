@@ -9,7 +9,7 @@ use native.Mathlib.Omega.{arith}
 use lib.IntN.{ℤ}
 use lib.Dec.{T, lit<}
 use lib.Pow.{pow_pos}
-use lib.Ieee.{Float, fin, binary32, up, down, round, mul, le, unlike, of_bits}
+use lib.Ieee.{Float, fin, binary32, up, down, round, mul, le, unlike, of_bits, inf, nan}
 use lib.Ieee.Fits.{down_pos}
 use Rattle.number.specs.Number.{half32}
 use Rattle.number.proofs.Rounding.{rnd, rnd_mono, rnd_same, rnd_fix}
@@ -33,6 +33,10 @@ rnd_none : rnd 0 L ≡ 0
 rnd_none = rnd_fix 0 L (pow_pos 149) (0, 0, lit< tt, refl)
 
 pub mul_is : (x y : Float) (u v : ℕ) → Is x u → Is y v → rnd (u * v) L < Top → Is (mul binary32 x y) (rnd (u * v) L)
+mul_is nan y u v p q h = elim p [ ]
+mul_is (inf _) y u v p q h = elim p [ ]
+mul_is (fin s m e) nan u v p q h = elim q [ ]
+mul_is (fin s m e) (inf _) u v p q h = elim q [ ]
 mul_is (fin s m e) (fin t n d) u v p q h =
     let k = in_units m e n d u v (size_is s m e u p) (size_is t n d v q) in
     subst (λ (z : ℕ). Is (mul binary32 (fin s m e) (fin t n d)) z) k

@@ -20,6 +20,10 @@ AtLeast b (fin s n d) = down d ≤ n * up d * 2 ^ b
 
 pub div_within : (a b : ℕ) (x y : Float) → a + b ≤ 127 → Within a x → AtLeast b y → Within (a + b) (div binary32 x y)
 unfolding div
+div_within a b nan y l h k = elim h [ ]
+div_within a b (inf _) y l h k = elim h [ ]
+div_within a b (fin s m e) nan l h k = elim k [ ]
+div_within a b (fin s m e) (inf _) l h k = elim k [ ]
 div_within a b (fin s m e) (fin t n d) l h k = go (eqb n 0) (eqb→eq n 0)
   where
     none : (u v p : ℕ) → 0 < p → p ≤ 0 * u * v → ⊥
@@ -60,6 +64,8 @@ eight = fin false 1 (pos 3)
 
 pub eighth_within : (a : ℕ) (x : Float) → a ≤ 127 → Within (a + 3) x → Within a (div binary32 x eight)
 unfolding div
+eighth_within a nan l h = elim h [ ]
+eighth_within a (inf _) l h = elim h [ ]
 eighth_within a (fin s m e) l h =
     round_within a (unlike s false) (m * up e * 1) (1 * 8 * down e) (mul-pos (pow_pos 3) (down_pos e)) l
     (le_trans (le_of_eq (mul-one (m * up e)))

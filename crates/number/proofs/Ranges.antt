@@ -83,6 +83,8 @@ within_tests a (fin true m e) h k =
 -- ---- from zero to 2 ^ a
 pub within_above : (a : ℕ) (x : Float) → T (le zero32 x) → T (le x (power a)) → Within a x
 unfolding le of_bits
+within_above a nan h k = elim h [ ]
+within_above a (inf true) h k = elim h [ ]
 within_above a (inf false) h k = absurd k
 within_above a (fin false m e) h k = within_tests a (fin false m e) (minus_plus 1 (pos a) m e) k
 within_above a (fin true m e) h k =
@@ -95,6 +97,8 @@ within_above a (fin true m e) h k =
 -- ---- at least 2 ^ -b
 pub at_least_tests : (b : ℕ) (x : Float) → T (finite x) → T (le (fin false 1 (negsuc b)) x) → AtLeast (suc b) x
 unfolding le
+at_least_tests b nan f h = elim f [ ]
+at_least_tests b (inf _) f h = elim f [ ]
 at_least_tests b (fin false m e) f h =
     let k = 1 * 1 * down e in
     let n = m * up e * 2 ^ suc b in
@@ -120,6 +124,8 @@ most_speed = of_bits binary32 0x5d80_0000
 
 above_least : (x : Float) → T (le least_speed x) → T (lt zero32 x)
 unfolding le of_bits
+above_least nan h = elim h [ ]
+above_least (inf true) h = elim h [ ]
 above_least (inf false) h = tt
 above_least (fin false m e) h =
     let k = 1 * 1 * down e in
@@ -151,6 +157,8 @@ in_bound_lem x h =
 
 pub within_bound : (x : Float) → Within 20 x → T (in_bound x)
 unfolding of_bits neg
+within_bound nan h = elim h [ ]
+within_bound (inf _) h = elim h [ ]
 within_bound (fin s m e) h = go s
   where
     under : T (le (fin false m e) (power 20))

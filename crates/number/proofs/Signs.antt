@@ -21,6 +21,9 @@ use Rattle.number.proofs.Zeros.{Zero, zero_of, round_none}
 
 pub plus_up : (x : Float) → T (plus x) → T (le zero32 x)
 unfolding le of_bits
+plus_up nan p = elim p [ ]
+plus_up (inf true) p = elim p [ ]
+plus_up (fin true m e) p = elim p [ ]
 plus_up (inf false) p = tt
 plus_up (fin false m e) p = elim (eq-zero-or-pos (m * up e * 1)) [
   | inl z ↦ or_r (ltb (0 * down e) (m * up e * 1)) (eqb (0 * down e) (m * up e * 1) && true)
@@ -32,6 +35,9 @@ plus_up (fin false m e) p = elim (eq-zero-or-pos (m * up e * 1)) [
 -- what is above something with the sign plus has it too
 pub above_plus : (x y : Float) → T (plus x) → T (lt x y) → T (plus y)
 unfolding lt
+above_plus nan y p h = elim p [ ]
+above_plus (inf true) y p h = elim p [ ]
+above_plus (fin true m e) y p h = elim p [ ]
 above_plus (fin false m e) (inf false) p h = tt
 above_plus (fin false m e) (inf true) p h = h
 above_plus (fin false m e) (fin false n d) p h = tt
@@ -44,11 +50,22 @@ above_plus (inf false) (fin t n d) p h = absurd h
 
 pub square_plus : (x : Float) → T (finite x) → T (plus (mul binary32 x x))
 unfolding mul
+square_plus nan f = elim f [ ]
+square_plus (inf _) f = elim f [ ]
 square_plus (fin true m e) f = round_plus (m * up e * (m * up e)) (down e * down e)
 square_plus (fin false m e) f = round_plus (m * up e * (m * up e)) (down e * down e)
 
 pub sum_plus : (x y : Float) → T (plus x) → T (plus y) → T (plus (add binary32 x y))
 unfolding add
+sum_plus nan y p q = elim p [ ]
+sum_plus (inf false) nan p q = elim q [ ]
+sum_plus (inf false) (inf true) p q = elim q [ ]
+sum_plus (inf false) (fin true n d) p q = elim q [ ]
+sum_plus (inf true) y p q = elim p [ ]
+sum_plus (fin false m e) nan p q = elim q [ ]
+sum_plus (fin false m e) (inf true) p q = elim q [ ]
+sum_plus (fin false m e) (fin true n d) p q = elim q [ ]
+sum_plus (fin true m e) y p q = elim p [ ]
 sum_plus (inf false) (inf false) p q = tt
 sum_plus (inf false) (fin false n d) p q = tt
 sum_plus (fin false m e) (inf false) p q = tt
@@ -57,10 +74,22 @@ sum_plus (fin false m e) (fin false n d) p q = round_plus (m * up e * down d + n
 -- a product and a quotient, where nothing is 0 times or over an infinity
 pub product_plus : (x y : Float) → T (finite x) → T (finite y) → T (plus x) → T (plus y) → T (plus (mul binary32 x y))
 unfolding mul
+product_plus nan y f g p q = elim f [ ]
+product_plus (inf _) y f g p q = elim f [ ]
+product_plus (fin false m e) nan f g p q = elim g [ ]
+product_plus (fin false m e) (inf _) f g p q = elim g [ ]
+product_plus (fin false m e) (fin true n d) f g p q = elim q [ ]
+product_plus (fin true m e) y f g p q = elim p [ ]
 product_plus (fin false m e) (fin false n d) f g p q = round_plus (m * up e * (n * up d)) (down e * down d)
 
 pub quotient_plus : (x y : Float) → T (finite x) → T (positive y) → T (plus x) → T (plus (div binary32 x y))
 unfolding div
+quotient_plus nan y f g p = elim f [ ]
+quotient_plus (inf _) y f g p = elim f [ ]
+quotient_plus (fin false m e) nan f g p = elim g [ ]
+quotient_plus (fin false m e) (inf _) f g p = elim g [ ]
+quotient_plus (fin false m e) (fin true n d) f g p = elim g [ ]
+quotient_plus (fin true m e) y f g p = elim p [ ]
 quotient_plus (fin false m e) (fin false n d) f g p = go (eqb n 0) (eqb→eq n 0)
   where
     no : (n : ℕ) → 0 < n → n ≡ 0 → ⊥
@@ -76,6 +105,8 @@ quotient_plus (fin false m e) (fin false n d) f g p = go (eqb n 0) (eqb→eq n 0
 -- what is above zero has digits
 pub positive_of : (x : Float) → T (lt zero32 x) → T (finite x) → T (positive x)
 unfolding lt of_bits
+positive_of nan h f = elim h [ ]
+positive_of (inf _) h f = elim f [ ]
 positive_of (fin false n d) h f = lt→ltb 0 n (some n (up d) (down d) (ltb→lt (0 * 1 * down d) (n * up d * 1) h))
   where
     some : (n u d : ℕ) → 0 * 1 * d < n * u * 1 → 0 < n

@@ -9,7 +9,7 @@ use native.Mathlib.Nat.{le_trans, le_of_eq, zero-mul, add-mul, mul-pos, mul-le-m
 use native.Mathlib.Omega.{arith}
 use lib.IntN.{ℤ}
 use lib.Pow.{pow_pos}
-use lib.Ieee.{Float, fin, binary32, up, down, round, sum, add, sub}
+use lib.Ieee.{Float, fin, binary32, up, down, round, sum, add, sub, inf, nan}
 use lib.Ieee.Fits.{up_pos, down_pos}
 use Rattle.number.proofs.Rounding.{rnd}
 use Rattle.number.proofs.Units.{L, Top, Is, size_is, left, right, no_size, none_of}
@@ -25,6 +25,10 @@ pub none_le : (a b : ℕ) → b ≡ 0 → b ≤ a
 none_le a b h = omega arith
 
 pub add_is : (x y : Float) (u v : ℕ) → Is x u → Is y v → rnd (u + v) 1 < Top → Is (add binary32 x y) (rnd (u + v) 1)
+add_is nan y u v p q h = elim p [ ]
+add_is (inf _) y u v p q h = elim p [ ]
+add_is (fin s m e) nan u v p q h = elim q [ ]
+add_is (fin s m e) (inf _) u v p q h = elim q [ ]
 add_is (fin s m e) (fin t n d) u v p q h =
     let A = m * up e * down d in
     let B = n * up d * down e in
@@ -67,6 +71,10 @@ add_is (fin s m e) (fin t n d) u v p q h =
 -- ---- the difference u - v for v ≤ u
 pub sub_is : (x y : Float) (u v : ℕ) → Is x u → Is y v → v ≤ u → rnd (u - v) 1 < Top
     → Is (sub binary32 x y) (rnd (u - v) 1)
+sub_is nan y u v p q o h = elim p [ ]
+sub_is (inf _) y u v p q o h = elim p [ ]
+sub_is (fin s m e) nan u v p q o h = elim q [ ]
+sub_is (fin s m e) (inf _) u v p q o h = elim q [ ]
 sub_is (fin s m e) (fin t n d) u v p q o h =
     let A = m * up e * down d in
     let B = n * up d * down e in

@@ -103,6 +103,8 @@ none_of m a b A B h =
 
 pub of_float : (x : Float) → T (fits binary32 x) → T (finite x) → T (le zero32 x) → (u : ℕ) × Unit32 x u
 unfolding le of_bits
+of_float nan t f h = elim f [ ]
+of_float (inf _) t f h = elim f [ ]
 of_float (fin false m e) t f h = (m * 2 ^ shift e, fin_false m e t)
 of_float (fin true m e) t f h =
     let z : 0 * down e ≡ m * up e * 1 =
@@ -139,6 +141,9 @@ pattern n = 0 + (size n - 24) * hid binary32 + n / 2 ^ (size n - 24)
 
 pub pattern_is : (x : Float) (u : ℕ) → T (plus x) → Is x u → to_bits binary32 x ≡ pattern u
 unfolding to_bits
+pattern_is nan u p h = elim p [ ]
+pattern_is (inf _) u p h = elim h [ ]
+pattern_is (fin true m e) u p h = elim p [ ]
 pattern_is (fin false m e) u p h = ap pattern (ap (λ (y : ℕ). y / down e) h ∙ mul-div_cancel u (down_pos e))
 
 -- any float is told by its pattern
@@ -156,6 +161,10 @@ unfolding le of_bits
 of_range x y v t h k q = of_float x t (bounded x y h k q) h
   where
     bounded : (x y : Float) → T (le zero32 x) → T (le x y) → Is y v → T (finite x)
+    bounded nan y h k q = elim h [ ]
+    bounded (inf false) nan h k q = elim k [ ]
+    bounded (inf false) (inf _) h k q = elim q [ ]
+    bounded (inf true) y h k q = elim h [ ]
     bounded (inf false) (fin false n d) h k q = k
     bounded (inf false) (fin true n d) h k q = k
     bounded (fin s m e) y h k q = tt

@@ -43,6 +43,8 @@ round_own s m e f = go (round binary32 s (m * up e) (down e)) (round-fits binary
         (round_at s (m * up e) (down e) (subst (λ (x : ℕ). x < Top) (sym exact) i.under))
 
     go : (x : Float) → T (fits binary32 x) → HasValue x s u L → x ≡ fin s m e
+    go nan g h = elim h [ ]
+    go (inf _) g h = elim h [ ]
     go (fin t n d) g h =
         ap (λ (b : Bool). fin b n d) h.0
         ∙ ap (signed s)
@@ -71,11 +73,15 @@ fits_zero s e f = subst Zero (round_own s 0 e f) (round_none s (0 * up e) (down 
 -- ---- a finite number moved by zero times a finite number
 zero_times : (d : Float) → T (finite d) → Zero (zero32 ⊗ d)
 unfolding mul of_bits
+zero_times nan h = elim h [ ]
+zero_times (inf _) h = elim h [ ]
 zero_times (fin t n d) h =
     round_none (unlike false t) (0 * (n * up d)) (1 * down d) (zero-mul (n * up d)) (mul-pos (lit< tt) (down_pos d))
 
 add_zero_alike : (x : Float) {z : Float} → T (fits binary32 x) → T (finite x) → Zero z → Alike (x ⊕ z) x
 unfolding add
+add_zero_alike nan {z = z} f h _ = elim h [ ]
+add_zero_alike (inf _) {z = z} f h _ = elim h [ ]
 add_zero_alike (fin s zero e) f h (zero_of {s = t}) =
     zeros
     (sum_none s (0 * up e * 1) t (0 * down e) (down e * 1) (mul-one (0 * up e) ∙ zero-mul (up e)) (zero-mul (down e))

@@ -37,6 +37,8 @@ low_finite (fin s m e) hi z l = tt
 
 pub high_finite : (x w : Float) (u : ℕ) → Is x u → T (lt x w) → T (le w one32) → T (finite w)
 unfolding le of_bits
+high_finite nan w u p a b = elim p [ ]
+high_finite (inf _) w u p a b = elim p [ ]
 high_finite (fin s m e) nan u p a b = a
 high_finite (fin s m e) (inf true) u p a b = a
 high_finite (fin s m e) (inf false) u p a b = b

@@ -26,27 +26,37 @@ Within a (inf s) = ⊥
 Within a (fin s m e) = m * up e ≤ 2 ^ a * down e
 
 pub within_finite : (a : ℕ) (x : Float) → Within a x → T (finite x)
+within_finite a nan h = elim h [ ]
+within_finite a (inf _) h = elim h [ ]
 within_finite a (fin s m e) h = tt
 
 pub within_more : (a b : ℕ) (x : Float) → a ≤ b → Within a x → Within b x
+within_more a b nan l h = elim h [ ]
+within_more a b (inf _) l h = elim h [ ]
 within_more a b (fin s m e) l h = le_trans h (mul-le-mul_right (down e) (pow_mono l))
 
 rep_pow : (a : ℕ) → Rep (2 ^ a * L)
 rep_pow a = (1, a + 149, lit< tt, sym (pow-add 2 a 149) ∙ sym (one-mul (2 ^ (a + 149))))
 
 pub value_within : (a : ℕ) (s : Bool) (x : Float) (w : ℕ) → w ≤ 2 ^ a * L → HasValue x s w L → Within a x
+value_within a s nan w h v = elim v [ ]
+value_within a s (inf _) w h v = elim v [ ]
 value_within a s (fin t m e) w h v =
     le_of_mul-le-mul_right (le_trans (le_of_eq v.1)
     (le_trans (mul-le-mul_right (down e) h) (le_of_eq (mul_right_comm (2 ^ a) L (down e))))) (pow_pos 149)
 
 -- the bound in units
 pub within_units : (a : ℕ) (x : Float) (u : ℕ) → Is x u → Within a x → u ≤ 2 ^ a * L
+within_units a nan u i h = elim i [ ]
+within_units a (inf _) u i h = elim i [ ]
 within_units a (fin s m e) u i h =
     le_of_mul-le-mul_right
     (le_trans (le_of_eq (sym (size_is s m e u i)))
     (le_trans (mul-le-mul_right L h) (le_of_eq (mul_right_comm (2 ^ a) (down e) L)))) (down_pos e)
 
 pub units_within : (a : ℕ) (x : Float) (u : ℕ) → Is x u → u ≤ 2 ^ a * L → Within a x
+units_within a nan u i h = elim i [ ]
+units_within a (inf _) u i h = elim i [ ]
 units_within a (fin s m e) u i h =
     le_of_mul-le-mul_right
     (le_trans (le_of_eq (size_is s m e u i))
@@ -88,6 +98,10 @@ sum_within a s A t B C K l h k = go (beq s t) (ltb A B) (s && ltb B A)
 
 pub add_within : (a : ℕ) (x y : Float) → suc a ≤ 127 → Within a x → Within a y → Within (suc a) (add binary32 x y)
 unfolding add
+add_within a nan y l h k = elim h [ ]
+add_within a (inf _) y l h k = elim h [ ]
+add_within a (fin s m e) nan l h k = elim k [ ]
+add_within a (fin s m e) (inf _) l h k = elim k [ ]
 add_within a (fin s m e) (fin t n d) l h k =
     sum_within a s (m * up e * down d) t (n * up d * down e) (down e * down d) (mul-pos (down_pos e) (down_pos d)) l
     (le_trans (mul-le-mul_right (down d) h) (le_of_eq (mul_assoc (2 ^ a) (down e) (down d))))
@@ -96,6 +110,8 @@ add_within a (fin s m e) (fin t n d) l h k =
 
 pub neg_within : (a : ℕ) (x : Float) → Within a x → Within a (neg x)
 unfolding neg
+neg_within a nan h = elim h [ ]
+neg_within a (inf _) h = elim h [ ]
 neg_within a (fin s m e) h = h
 
 pub sub_within : (a : ℕ) (x y : Float) → suc a ≤ 127 → Within a x → Within a y → Within (suc a) (sub binary32 x y)
@@ -105,6 +121,10 @@ sub_within a x y l h k = add_within a x (neg y) l h (neg_within a y k)
 -- ---- products
 pub mul_within : (a b : ℕ) (x y : Float) → a + b ≤ 127 → Within a x → Within b y → Within (a + b) (mul binary32 x y)
 unfolding mul
+mul_within a b nan y l h k = elim h [ ]
+mul_within a b (inf _) y l h k = elim h [ ]
+mul_within a b (fin s m e) nan l h k = elim k [ ]
+mul_within a b (fin s m e) (inf _) l h k = elim k [ ]
 mul_within a b (fin s m e) (fin t n d) l h k =
     round_within (a + b) (unlike s t) (m * up e * (n * up d)) (down e * down d) (mul-pos (down_pos e) (down_pos d)) l
     (le_trans (mul-le-mul h k) (le_of_eq

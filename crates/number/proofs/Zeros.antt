@@ -46,6 +46,10 @@ sum_first s a t b c z p = go s t (ltb a b) (ltb b a) (not_T (ltb a b) (λ h. non
     go : (s t less more : Bool) → T (not less) → T more → by_tests s a t b c less more ≡ round binary32 s a c
     go false false less more f g = ap (λ (x : ℕ). round binary32 false x c) (omega arith)
     go true true less more f g = ap (λ (x : ℕ). round binary32 true x c) (omega arith)
+    go false true false false f g = elim g [ ]
+    go false true true more f g = elim f [ ]
+    go true false false false f g = elim g [ ]
+    go true false true more f g = elim f [ ]
     go false true false true f g = ap (λ (x : ℕ). round binary32 false x c) (omega arith)
     go true false false true f g = ap (λ (x : ℕ). round binary32 true x c) (omega arith)
 
@@ -60,6 +64,8 @@ sum_second s a t b c z p = go s t (ltb a b) (lt→ltb a b some)
     go : (s t less : Bool) → T less → by_tests s a t b c less (ltb b a) ≡ round binary32 t b c
     go false false less g = ap (λ (x : ℕ). round binary32 false x c) (omega arith)
     go true true less g = ap (λ (x : ℕ). round binary32 true x c) (omega arith)
+    go false true false g = elim g [ ]
+    go true false false g = elim g [ ]
     go false true true g = ap (λ (x : ℕ). round binary32 true x c) (omega arith)
     go true false true g = ap (λ (x : ℕ). round binary32 false x c) (omega arith)
 

@@ -6,14 +6,14 @@ ghost use Rattle.number.specs.ByHand as Def;
 ghost use Rattle.number.specs.Inner.{OnSheet};
 
 // A number above zero: digits * 2 ^ (exponent - 173), with 24 binary digits.
-#[derive(Drop)]
+#[derive(Clone, Copy)]
 pub struct Argument {
     pub digits: u32,
     pub exponent: u32,
 }
 
 // What stands on the sheet: twice the digits so far, and what is left, counted in the place of the last digit.
-#[derive(Drop)]
+#[derive(Clone, Copy)]
 pub struct Sheet {
     pub twice: u32,
     pub left: u32,

@@ -1,5 +1,8 @@
 // A pair's own safe time (docs/01-scope.md, "The scene file"): offset, clearance and time limit are given, and u_max is
 // the norm of the pair's displacements.
+
+#![tactic(auto)]
+
 ghost use Rattle.std.specs.Prelude.{◌≡◌};
 ghost use Rattle.own_time.specs.OwnTime as Def;
 

@@ -1,6 +1,8 @@
 // The public calls on the four points of a pair at one time, which refuse (docs/01-scope.md, "What callers hand over,
 // and the numbers allowed", "Refusal numbers"). The functions of `geometry` and `distance` below them are total.
 
+#![tactic(auto)]
+
 // A place along a segment; moved, centred, scaled points.
 pub mod points;
 

@@ -9,7 +9,7 @@ use geometry::{edge3, mat3x4_array_of_cols as columns};
 
 // A place along a segment, or a refusal and zeros.
 #[repr(C)]
-#[derive(Drop)]
+#[derive(Clone, Copy)]
 pub struct Placed {
     pub refusal: u32,
     pub point: [f32; 3],

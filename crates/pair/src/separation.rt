@@ -8,7 +8,7 @@ use distance::nearest;
 // A squared distance, the direction from the first side to the second, and which candidate was the first smallest; or
 // a refusal and zeros.
 #[repr(C)]
-#[derive(Drop)]
+#[derive(Clone, Copy)]
 pub struct Measured {
     pub refusal: u32,
     pub squared: f32,

@@ -3,6 +3,9 @@
 // oracle's for the same calls (`oracle ask`, docs/TESTING.md): what the model of the rules gives, and the original
 // wherever it answers; norms of 2^-60 and more, and those of a NaN and of infinities, which a public call refuses, are
 // 01-scope.md's rule.
+
+#![tactic(auto)]
+
 mod cases;
 mod otherwise;
 mod text;

@@ -6,7 +6,7 @@ use number::order::written;
 
 // The roots in the first `count` places, zero in the others; `refusal` 0, or the number of a refusal and no root.
 #[repr(C)]
-#[derive(Drop)]
+#[derive(Clone, Copy)]
 pub struct Roots {
     pub refusal: u32,
     pub count: u32,

@@ -14,7 +14,7 @@ use crate::span::{End, end_at, span_root};
 use number::order::{larger, smaller};
 
 // c0 + c1 x + c2 x² + c3 x³
-#[derive(Drop)]
+#[derive(Clone, Copy)]
 pub struct Cubic {
     pub c0: f32,
     pub c1: f32,

@@ -1,5 +1,8 @@
 // Roots of polynomials of degree two and three (polynomial_root.rs; docs/01-scope.md, "Roots"). The two functions here
 // refuse what is out of range; the modules hold what they rest on, for any numbers.
+
+#![tactic(auto)]
+
 mod admission;
 pub mod answer;
 pub mod cubic;

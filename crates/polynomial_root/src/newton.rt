@@ -6,7 +6,7 @@ use crate::cubic::Cubic;
 use number::order::{clamp, size};
 
 // What a search for one root gives: the root, none, or the number of a refusal.
-#[derive(Drop)]
+#[derive(Clone, Copy)]
 pub enum Found {
     Root(f32),
     Nothing,

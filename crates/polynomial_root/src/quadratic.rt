@@ -8,7 +8,7 @@ use crate::answer::{Roots, push, refused};
 use number::root::root;
 
 // None or two, the smaller first.
-#[derive(Drop)]
+#[derive(Clone, Copy)]
 pub enum Solved {
     Neither,
     Both(f32, f32),

@@ -6,7 +6,7 @@ use crate::cubic::Cubic;
 use crate::newton::{Found, descend, value_at};
 
 // The end of a span: its place and the value there.
-#[derive(Drop)]
+#[derive(Clone, Copy)]
 pub struct End {
     pub x: f32,
     pub f: f32,

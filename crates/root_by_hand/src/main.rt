@@ -1,6 +1,9 @@
 // The square root by hand (docs/01-scope.md, "The root by hand"): reads bit patterns from standard input, words of
 // eight hexadecimal digits, and writes the sheet of each to standard output as soon as its word ends. A word that is no
 // pattern is told by its number. What fails is said on standard error.
+
+#![tactic(auto)]
+
 mod word;
 
 use crate::word::{Reading, is_blank, longer};

@@ -2,7 +2,7 @@
 
 // How far the input is read: the digits of the word that is being read and how many characters it has, 9 where it is no
 // pattern; how many words have ended; and whether all of them could be answered.
-#[derive(Drop)]
+#[derive(Clone, Copy)]
 pub(crate) struct Reading {
     pub bits: u32,
     pub length: u32,

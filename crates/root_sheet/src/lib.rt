@@ -1,5 +1,8 @@
 // The sheet of a square root (docs/01-scope.md, "The root by hand"): from a bit pattern to the bytes of the text, which
 // is put into a lent buffer. What it shows are the sheets that `number::by_hand` works on.
+
+#![tactic(auto)]
+
 mod numeral;
 mod row;
 

@@ -1,13 +1,16 @@
 // The safe times of a scene (docs/01-scope.md, "The scene file", "The listing"): reads a scene file from standard
 // input and writes its listing to standard output. What fails is said on standard error. The listing that it must
 // write is the example's, as docs/01-scope.md has it.
+
+#![tactic(auto)]
+
 ghost use Rattle.std.specs.Prelude.{◌+◌, ◌≤◌, length};
 ghost use Rattle.io.specs.Counts.{IsPrefixLen};
 
 use libc::{STDERR_FILENO, STDIN_FILENO, STDOUT_FILENO};
 
 // What a read gave: how many bytes, or that it failed.
-#[derive(Drop)]
+#[derive(Clone, Copy)]
 struct Got {
     failed: bool,
     count: usize,

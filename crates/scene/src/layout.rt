@@ -8,7 +8,7 @@ use crate::places::{displacements_at, limits_at, pair_at, pair_count, point_coun
 use crate::words::word;
 
 // What a file turns out to be: its refusal, 0 for none, and how many points and pairs it has, 0 where refused.
-#[derive(Drop)]
+#[derive(Clone, Copy)]
 pub struct Scene {
     pub refusal: u32,
     pub points: u32,

@@ -2,6 +2,9 @@
 // answer is five: 0 and the root's pattern, or 1 and the refusal number. Bytes after the last whole pattern are left.
 // What it must write is the processor's own root, and the refusals of docs/01-scope.md (tests/root_oracle.c, which also
 // makes the longer run of tests/square_root).
+
+#![tactic(auto)]
+
 ghost use Rattle.std.specs.Prelude.{◌+◌, ◌*◌, ◌≤◌, ◌<◌, length};
 ghost use Rattle.io.specs.Counts.{IsPrefixLen};
 
@@ -9,7 +12,7 @@ use number::answer::Answered;
 use number::pattern::{bits_of, float_of};
 use number::root;
 
-#[derive(Drop)]
+#[derive(Clone, Copy)]
 struct Reply {
     kind: u32,
     value: u32,

@@ -1,5 +1,8 @@
 // Text in a lent buffer. Each function writes at place `at` and answers the place after what it wrote; what lies past
 // the buffer's end is counted and not written.
+
+#![tactic(auto)]
+
 ghost use Rattle.std.specs.Prelude.{[], ◌∷◌, ◌<◌, ◌≤◌, ◌+◌};
 ghost use Rattle.text.specs.Text.{Put};
 ghost use Rattle.text.specs.Text as Def;

@@ -8,7 +8,7 @@ use number::answer::Answered;
 
 // How a safe time ends: its kind is 0 touching, 1 contact, 2 clear, 3 budget, 4 refused.
 #[repr(C)]
-#[derive(Drop)]
+#[derive(Clone, Copy)]
 pub struct SafeTime {
     pub refusal: u32,
     pub kind: u32,
@@ -19,7 +19,7 @@ pub struct SafeTime {
 
 // One number, or a refusal.
 #[repr(C)]
-#[derive(Drop)]
+#[derive(Clone, Copy)]
 pub struct Value {
     pub refusal: u32,
     pub value: f32,

@@ -3,6 +3,8 @@
 // library's own function, and hands its answer on in a form that C can take. Four points are lent, never handed over
 // by value, since C has no arrays by value.
 
+#![tactic(auto)]
+
 // What is answered.
 pub mod answer;
 

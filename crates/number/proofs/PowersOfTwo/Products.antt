@@ -8,7 +8,7 @@ use native.Mathlib.Omega.{arith}
 use lib.Dec.{T, lit<}
 use lib.IntN.{ℤ, pos, negsuc}
 use lib.Pow.{pow-add, pow_pos}
-use lib.Ieee.{Float, fin, binary32, up, down, unlike, round, mul, fits}
+use lib.Ieee.{Float, fin, binary32, up, down, unlike, round, mul, fits, inf, nan}
 use lib.Ieee.Exact.{HasValue}
 use lib.Ieee.Fits.{down_pos}
 use lib.Ieee.Scale.{finite, round_same}
@@ -25,6 +25,8 @@ power k = fin false 1 k
 product_round : (k : ℤ) (x : Float) (s : Bool) (u : ℕ) → HasValue x s u L
     → x ⊗ power k ≡ round binary32 s (u * up k) (L * down k)
 unfolding mul
+product_round k nan s u p = elim p [ ]
+product_round k (inf _) s u p = elim p [ ]
 product_round k (fin r m e) s u p =
     ap (λ (b : Bool). round binary32 b (m * up e * (1 * up k)) (down e * down k)) (own r p.0)
     ∙ round_same binary32 s (m * up e * (1 * up k)) (down e * down k) (u * up k) (L * down k)

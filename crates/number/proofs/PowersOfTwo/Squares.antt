@@ -10,7 +10,7 @@ use native.Mathlib.Nat.{lt_of_mul-lt-mul_right, mul_right_comm}
 use native.Mathlib.Decide.{dec_le}
 use lib.Dec.{T, lit<, lit≤}
 use lib.Pow.{pow-add, pow_pos}
-use lib.Ieee.{Float, fin, binary32, up, down, unlike, size, round, mul}
+use lib.Ieee.{Float, fin, binary32, up, down, unlike, size, round, mul, inf, nan}
 use lib.Ieee.Exact.{HasValue}
 use lib.Ieee.Fits.{down_pos}
 use lib.Ieee.Scale.{finite, round_same, grid_scale, normal_of_fraction}
@@ -29,6 +29,10 @@ Squared u = (u ≡ 0) ⊎ (2 ^ 23 * L ≤ u * u)
 mul_units : (x y : Float) (s r : Bool) (u v : ℕ) → HasValue x s u L → HasValue y r v L
     → x ⊗ y ≡ round binary32 (unlike s r) (u * v) (L * L)
 unfolding mul
+mul_units nan y s r u v p q = elim p [ ]
+mul_units (inf _) y s r u v p q = elim p [ ]
+mul_units (fin s' m e) nan s r u v p q = elim q [ ]
+mul_units (fin s' m e) (inf _) s r u v p q = elim q [ ]
 mul_units (fin s' m e) (fin r' n d) s r u v p q =
     ap (λ (b : Bool). round binary32 (unlike b r') (m * up e * (n * up d)) (down e * down d)) p.0
     ∙ ap (λ (b : Bool). round binary32 (unlike s b) (m * up e * (n * up d)) (down e * down d)) q.0

@@ -9,7 +9,7 @@ use native.Mathlib.Omega.{arith}
 use lib.Dec.{T, ltb, ltb→lt, lt→ltb}
 use lib.Pow.{pow_pos}
 use borrow.Author.Tests.{ltb-true, ltb-false}
-use lib.Ieee.{Float, fin, binary32, up, down, round, neg, sum, sub, fits}
+use lib.Ieee.{Float, fin, binary32, up, down, round, neg, sum, sub, fits, inf, nan}
 use lib.Ieee.Exact.{HasValue}
 use lib.Ieee.Fits.{down_pos}
 use lib.Ieee.Scale.{finite, round_same}
@@ -108,6 +108,10 @@ sum_over s a r b c p C P =
 -- of numbers that are so many units
 pub add_units : (x y : Float) (s r : Bool) (u v : ℕ) → HasValue x s u L → HasValue y r v L
     → x ⊕ y ≡ sum binary32 s u r v L
+add_units nan y s r u v p q = elim p [ ]
+add_units (inf _) y s r u v p q = elim p [ ]
+add_units (fin s' m e) nan s r u v p q = elim q [ ]
+add_units (fin s' m e) (inf _) s r u v p q = elim q [ ]
 add_units (fin s' m e) (fin r' n d) s r u v p q =
     let A = m * up e * down d in
     let B = n * up d * down e in

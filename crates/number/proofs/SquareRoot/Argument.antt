@@ -74,6 +74,8 @@ module _ (x : Float) (f : T (fits binary32 x)) (a : T (lt zero32 x)) where
   finite_bits h = go x (subst (λ (y : Float). Is y (val b)) own (bits_are b h))
     where
       go : (y : Float) → Is y (val b) → T (is_finite y)
+      go nan i = elim i [ ]
+      go (inf _) i = elim i [ ]
       go (fin s m e) i = tt
 
   units_own : b < inf_bits → units_of x ≡ val b

@@ -50,6 +50,8 @@ pub record RootUnits (x : Float) (u : ℕ) : Type 0 where
 
 real : (x : Float) (u : ℕ) → Is x u → T (is_finite x)
 unfolding is_finite
+real nan u i = elim i [ ]
+real (inf _) u i = elim i [ ]
 real (fin s m e) u i = tt
 
 module _ (x : Float) (u : ℕ) (f : T (fits binary32 x)) (a : T (lt zero32 x)) (i : Is x u) where

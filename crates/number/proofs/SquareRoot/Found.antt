@@ -7,7 +7,7 @@ use Prim.Native.Nat.{ℕ, zero, suc, ◌+◌, ◌-◌, ◌*◌, ◌/◌, ◌^◌
 use native.Mathlib.Nat.{eq-zero-or-pos, eq-or-lt_of_le}
 use native.Mathlib.Omega.{arith}
 use lib.Dec.{T}
-use lib.Ieee.{Float, fin, binary32, lt, fits, of_bits, to_bits}
+use lib.Ieee.{Float, fin, binary32, lt, fits, of_bits, to_bits, inf, nan}
 use Rattle.number.specs.Number.{zero32, is_finite, inf_bits, units_of, root_of}
 use Rattle.number.specs.Inner.{RootBits, whole_of}
 use Rattle.number.proofs.Units.{L, shift, fin_false}
@@ -50,6 +50,9 @@ pub record Found (x : Float) : Type 0 where
 
 finite_lt : (x : Float) → T (fits binary32 x) → T (lt zero32 x) → T (is_finite x) → to_bits binary32 x < inf_bits
 unfolding lt is_finite of_bits
+finite_lt nan f a h = elim a [ ]
+finite_lt (inf _) f a h = elim h [ ]
+finite_lt (fin mathlib.Core.Bool.true m e) f a h = elim a [ ]
 finite_lt (fin false m e) f a h = bits_lt (fin false m e) (m * 2 ^ shift e) f tt (fin_false m e f)
 
 module _ (x : Float) (f : T (fits binary32 x)) (a : T (lt zero32 x)) (h : T (is_finite x)) where

@@ -9,7 +9,7 @@ use native.Mathlib.Nat.{add-lt-add_of_le_of_lt, mul-div_cancel, pow-succ'}
 use native.Mathlib.Omega.{arith}
 use native.Mathlib.Decide.{dec_le}
 use lib.Dec.{T, ltb, eqb, ltb→lt, lt→ltb, eqb→eq, not_T, T_not}
-use lib.Ieee.{Float, fin, binary32, down, lt, of_bits}
+use lib.Ieee.{Float, fin, binary32, down, lt, of_bits, inf, nan}
 use lib.Ieee.Bits.{is_true, is_false}
 use lib.Ieee.Fits.{and_i, and_l, and_r, eq→eqb, down_pos}
 use Rattle.number.specs.Number.{zero32, is_finite, inf_bits, units_of, twice_middle, twice_root_squared, root_at_least}
@@ -22,6 +22,8 @@ use Rattle.number.proofs.Patterns.{val, val_lt, val_le, bits_are}
 -- ---- counts
 pub units_is : (x : Float) (u : ℕ) → Is x u → units_of x ≡ u
 unfolding units_of
+units_is nan u h = elim h [ ]
+units_is (inf _) u h = elim h [ ]
 units_is (fin s m e) u h = ap (λ (n : ℕ). n / down e) (size_is s m e u h) ∙ mul-div_cancel u (down_pos e)
 
 pub units_bits : (b : ℕ) → b < inf_bits → units_of (of_bits binary32 b) ≡ val b

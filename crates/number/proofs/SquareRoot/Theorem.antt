@@ -10,7 +10,7 @@ use native.Mathlib.Nat.{eq-or-lt_of_le, add-le-add, add-sub_cancel, mul-le-mul}
 use native.Mathlib.Omega.{arith}
 use native.Mathlib.Decide.{dec_le}
 use lib.Dec.{T}
-use lib.Ieee.{Float, fin, binary32, lt, fits, of_bits, to_bits}
+use lib.Ieee.{Float, fin, binary32, lt, fits, of_bits, to_bits, inf, nan}
 use lib.Ieee.Bits.{of_bits-fits, of_bits-to_bits}
 use lib.Ieee.Exact.{HasValue}
 use Rattle.number.specs.Number.{zero32, is_finite, inf_bits, units_of, twice_middle, twice_root_squared, root_at_least}
@@ -95,6 +95,9 @@ unfolding is_finite
 from_lt y k = go y k.fit k.sign k.real
   where
     go : (y : Float) → T (fits binary32 y) → T (plus y) → T (is_finite y) → to_bits binary32 y < inf_bits
+    go nan f p h = elim p [ ]
+    go (inf _) f p h = elim h [ ]
+    go (fin true m e) f p h = elim p [ ]
     go (fin false m e) f p h = bits_lt (fin false m e) (m * 2 ^ shift e) f tt (fin_false m e f)
 
 from_units : (y : Float) → FromZero y → val (to_bits binary32 y) ≡ units_of y
@@ -103,6 +106,8 @@ from_units y k =
 
 value_plus : (y : Float) (u : ℕ) → HasValue y false u L → T (plus y) × T (is_finite y)
 unfolding is_finite
+value_plus nan u v = elim v [ ]
+value_plus (inf _) u v = elim v [ ]
 value_plus (fin false m e) u v = (tt, tt)
 value_plus (fin true m e) u v = absurd (true≢false v.0)
 

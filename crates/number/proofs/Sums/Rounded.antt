@@ -9,7 +9,7 @@ use native.Mathlib.Omega.{arith}
 use lib.IntN.{ℤ}
 use lib.Dec.{T, ltb, ltb→lt, lt→ltb, lit<}
 use lib.Pow.{pow_pos}
-use lib.Ieee.{Float, inf, fin, binary32, up, down, round, units, odd, sum, add, sub}
+use lib.Ieee.{Float, inf, fin, binary32, up, down, round, units, odd, sum, add, sub, nan}
 use lib.Ieee.Fits.{up_pos, round_is}
 use lib.Ieee.Exact.{HasValue, units_val}
 use lib.Ieee.Order.{drop, kept}
@@ -23,10 +23,14 @@ round_at s a c h =
     (units_val binary32 s (kept 24 (a * L) c) (drop 24 (a * L) c) h)
 
 pub to_is : (x : Float) (w : ℕ) → HasValue x false w L → Is x w
+to_is nan w h = elim h [ ]
+to_is (inf _) w h = elim h [ ]
 to_is (fin false m e) w h = h.1
 to_is (fin true m e) w h = absurd (true≢false h.0)
 
 pub to_is_minus : (x : Float) (w : ℕ) → w ≡ 0 → HasValue x true w L → Is x w
+to_is_minus nan w z h = elim h [ ]
+to_is_minus (inf _) w z h = elim h [ ]
 to_is_minus (fin false m e) w z h = absurd (false≢true h.0)
 to_is_minus (fin true m e) w z h =
     (none_of m (up e) L (up_pos e) (pow_pos 149) (h.1 ∙ ap (λ (x : ℕ). x * down e) z ∙ zero-mul (down e)), z)
@@ -92,6 +96,7 @@ sum_ft_over a b c h = go (ltb a b) (lt→ltb a b h)
   where
     go : (t : Bool) → T t
         → cond t (round binary32 true (b - a) c) (round binary32 false (a - b) c) ≡ round binary32 true (b - a) c
+    go false k = elim k [ ]
     go true k = refl
 
 pub sum_tf : (a b c : ℕ) → a ≤ b → sum binary32 true a false b c ≡ round binary32 false (b - a) c

@@ -68,6 +68,8 @@ module _ (a b de dd l u v : ℕ) (D : 0 < de) (E : 0 < dd) (K : 0 < l) (p : a * 
       (λ t. eq→eqb (eq_cross (eqb→eq u v t)))
 
 pub finite_is : (x : Float) (u : ℕ) → Is x u → T (finite x)
+finite_is nan u i = elim i [ ]
+finite_is (inf _) u i = elim i [ ]
 finite_is (fin s m e) u i = tt
 
 -- no significand is no units
@@ -100,6 +102,12 @@ no_size m a b e = ap (λ (x : ℕ). x * a * b) e ∙ zero_size a b
 -- ---- the comparisons
 pub lt_is : (x y : Float) (u v : ℕ) → Is x u → Is y v → lt x y ≡ ltb u v
 unfolding lt
+lt_is nan y u v p q = elim p [ ]
+lt_is (inf _) y u v p q = elim p [ ]
+lt_is (fin false m e) nan u v p q = elim q [ ]
+lt_is (fin false m e) (inf _) u v p q = elim q [ ]
+lt_is (fin true m e) nan u v p q = elim q [ ]
+lt_is (fin true m e) (inf _) u v p q = elim q [ ]
 lt_is (fin false m e) (fin false n d) u v p q =
     ltb_cross (m * up e) (n * up d) (down e) (down d) L u v (down_pos e) (down_pos d) (pow_pos 149) p q
 lt_is (fin false m e) (fin true n d) u v p q = sym (no_ltb u) ∙ ap (λ (x : ℕ). ltb u x) (sym q.1)
@@ -120,6 +128,12 @@ lt_is (fin true m e) (fin true n d) u v p q =
 
 pub eq_is : (x y : Float) (u v : ℕ) → Is x u → Is y v → eq x y ≡ eqb u v
 unfolding eq
+eq_is nan y u v p q = elim p [ ]
+eq_is (inf _) y u v p q = elim p [ ]
+eq_is (fin false m e) nan u v p q = elim q [ ]
+eq_is (fin false m e) (inf _) u v p q = elim q [ ]
+eq_is (fin true m e) nan u v p q = elim q [ ]
+eq_is (fin true m e) (inf _) u v p q = elim q [ ]
 eq_is (fin false m e) (fin false n d) u v p q =
     and_true (eqb (m * up e * down d) (n * up d * down e))
     ∙ eqb_cross (m * up e) (n * up d) (down e) (down d) L u v (down_pos e) (down_pos d) (pow_pos 149) p q

@@ -18,35 +18,35 @@ use Rattle.number.proofs.by_hand.argument_of.Tie as tie
 
 -- what owning an `f32` tells: the format holds it
 held : (c : tie.Start) → T (fits binary32 c.args.x)
-held c = subst T (sym c.well-formed.0.1) tt
+held c = subst T (sym c.well_formed.0.1) tt
 
 abbrev bits : tie.Start → ℕ
 bits c = to_bits binary32 c.args.x
 
 -- the way in: x is above zero
-above : (c : tie.Then1) → T (lt zero32 c.before.args.x)
-above c = subst T (sym c.if1.true) tt
+above : (c : tie.Then-x) → T (lt zero32 c.before.args.x)
+above c = subst T (sym c.if-x.true) tt
 
-float-to-bits-b : tie.Need-float-to-bits-b
-float-to-bits-b c = (no_nan_lt zero32 c.before.args.x (above c)).1
+float_to_bits-b : tie.Need-float_to_bits-b
+float_to_bits-b c = (no_nan_lt zero32 c.before.args.x (above c)).1
 
 -- ---- a subnormal argument, raised
-up : (c : tie.At-match-keys1) → Raised (bits c.before.before)
+up : (c : tie.In-0) → Raised (bits c.before.before)
 up c =
     let s = c.before.before in
     raised (bits s) (some_bits s.args.x (held s) (above c.before)) (omega arith)
 
-sub-z : tie.Need-overflow-sub-z
-sub-z c = (up c).enough
+overflow_sub-z : tie.Need-overflow_sub-z
+overflow_sub-z c = (up c).enough
 
-shl-digits : tie.Need-overflow-shl-digits
-shl-digits c = let u = (up c).within in omega arith
+overflow_shl-digits : tie.Need-overflow_shl-digits
+overflow_shl-digits c = let u = (up c).within in omega arith
 
-sub-exponent : tie.Need-overflow-sub-exponent
-sub-exponent c = let u = (up c).within in omega arith
+overflow_sub-exponent : tie.Need-overflow_sub-exponent
+overflow_sub-exponent c = let u = (up c).within in omega arith
 
-returns : tie.Need-returns
-returns c =
+returns-in-0 : tie.Need-returns-in-0
+returns-in-0 c =
     let s = c.before.before in
     let x = s.args.x in
     let d = bits s in
@@ -54,15 +54,15 @@ returns c =
     let u = up c in
     rw u.exact
     (argument_is x (d * 2 ^ lift d) (24 - lift d) u.low u.high (omega arith)
-    (scale_subnormal x (held s) a (lift d) u.within c.match.keys1) a (finite_bits x (held s) a (omega arith)))
+    (scale_subnormal x (held s) a (lift d) u.within c.in-0.is) a (finite_bits x (held s) a (omega arith)))
 
 -- ---- a normal argument
-returns-2 : tie.Need-returns-2
-returns-2 c =
-    let s = c.before.before.before in
+returns-in-1-to-254 : tie.Need-returns-in-1-to-254
+returns-in-1-to-254 c =
+    let s = c.before.before in
     let x = s.args.x in
     let b = bits s in
-    let a = above c.before.before in
+    let a = above c.before in
     let l : b < inf_bits = omega arith in
     let f : 0 < b / 8388608 = omega arith in
     rw (same b l)
@@ -73,17 +73,17 @@ returns-2 c =
     same b h = omega arith
 
 -- ---- no argument
-returns-3 : tie.Need-returns-3
-returns-3 c =
-    let s = c.before.before.before in
+returns-in_default : tie.Need-returns-in_default
+returns-in_default c =
+    let s = c.before.before in
     let x = s.args.x in
-    not_finite_none x (at_top x (held s) (above c.before.before) (omega arith))
+    not_finite_none x (at_top x (held s) (above c.before) (omega arith))
 
-returns-4 : tie.Need-returns-4
-returns-4 c = not_above_none c.before.args.x c.if1.false
+returns-else-x : tie.Need-returns-else-x
+returns-else-x c = not_above_none c.before.args.x c.if-x.false
 
 pub argument_of_spec : {M : Type 1} → statement M
 argument_of_spec =
     tie.close
-    (tie.spec float-to-bits-b sub-z shl-digits sub-exponent (search rules) (search rules) (search rules) returns
-    returns-2 returns-3 returns-4)
+    (tie.spec float_to_bits-b overflow_sub-z overflow_shl-digits overflow_sub-exponent (search rules) (search rules) (search rules) returns-in-0
+    returns-in-1-to-254 returns-in_default returns-else-x)

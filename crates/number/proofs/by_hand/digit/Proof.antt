@@ -11,16 +11,16 @@ use Rattle.number.proofs.by_hand.digit.Tie as tie
 doubled : (left : ℕ) → left < 2 ^ 31 → left * 2 % 4294967296 ≡ left * 2
 doubled left h = omega arith
 
-returns : tie.Need-returns
-returns c n o =
+returns-then-left-trial : tie.Need-returns-then-left-trial
+returns-then-left-trial c n o =
     let a = c.before.before.before in
-    digit_zero n a.args.place a.args.s o _ (sym (doubled a.args.s.left a.requires.0)) c.if1.true
+    digit_zero n a.args.place a.args.s o _ (sym (doubled a.args.s.left a.requires.0)) c.if-left-trial.true
 
-returns-2 : tie.Need-returns-2
-returns-2 c n o =
+returns-else-left-trial : tie.Need-returns-else-left-trial
+returns-else-left-trial c n o =
     let a = c.before.before.before in
     let e = doubled a.args.s.left a.requires.0 in
-    digit_one n a.args.place a.args.s o _ (omega (arith, c.if1.false))
+    digit_one n a.args.place a.args.s o _ (omega (arith, c.if-left-trial.false))
 
 pub digit_spec : {M : Type 1} → statement M
-digit_spec = tie.close (tie.spec (search rules) (search rules) returns returns-2)
+digit_spec = tie.close (tie.spec (search rules) (search rules) returns-then-left-trial returns-else-left-trial)

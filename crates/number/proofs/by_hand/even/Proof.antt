@@ -7,8 +7,8 @@ use lib.Pow.{shl_exact}
 use Rattle.number.proofs.by_hand.even.Statement.{statement}
 use Rattle.number.proofs.by_hand.even.Tie as tie
 
-shl-result : tie.Need-overflow-shl-result
-shl-result c = omega (arith, and_mask c.before.before.args.a.exponent 1)
+overflow_shl-result : tie.Need-overflow_shl-result
+overflow_shl-result c = omega (arith, and_mask c.before.before.args.a.exponent 1)
 
 returns : tie.Need-returns
 returns c =
@@ -17,4 +17,4 @@ returns c =
     ∙ shl_exact 24 (a.exponent % 2) 32 c.before.before.requires (omega arith)
 
 pub even_spec : {M : Type 1} → statement M
-even_spec = tie.close (tie.spec shl-result returns)
+even_spec = tie.close (tie.spec overflow_shl-result returns)

@@ -16,32 +16,32 @@ use Rattle.number.proofs.by_hand.sheet_after.Tie as tie
 
 -- what owning an `f32` tells: the format holds it
 held : (c : tie.Start) → T (fits binary32 c.args.x)
-held c = subst T (sym c.well-formed.0.1) tt
+held c = subst T (sym c.well_formed.0.1) tt
 
-even-requires : tie.Need-even-requires
-even-requires c κs =
+even-n-requires : tie.Need-even-n-requires
+even-n-requires c κs =
     subst (λ (a : Argument). a.digits < 2 ^ 24) (sym c.argument_of.ensures)
     (digits_short c.before.args.x (held c.before))
 
 -- the number, by the definition
-number_is : (c : tie.After-even)
-    → c.even.result
+number_is : (c : tie.After-even-n)
+    → c.even-n.result
     ≡ (argument_of c.before.before.args.x).digits * 2 ^ ((argument_of c.before.before.args.x).exponent % 2)
 number_is c =
-    c.even.ensures ∙ ap (λ (a : Argument). a.digits * 2 ^ (a.exponent % 2)) c.before.argument_of.ensures
+    c.even-n.ensures ∙ ap (λ (a : Argument). a.digits * 2 ^ (a.exponent % 2)) c.before.argument_of.ensures
 
-number_short : (c : tie.After-even) → c.even.result < 2 ^ 25
+number_short : (c : tie.After-even-n) → c.even-n.result < 2 ^ 25
 number_short c =
     let s = c.before.before in subst (λ (n : ℕ). n < 2 ^ 25) (sym (number_is c)) (short s.args.x (held s))
 
 worked-requires : tie.Need-worked-requires
-worked-requires c κs = (number_short c.before, omega (arith, c.if1.true))
+worked-requires c κs = (number_short c.before, omega (arith, c.if-turns-lt25.true))
 
-worked-requires-2 : tie.Need-worked-requires-2
-worked-requires-2 c κs = (number_short c.before, omega arith)
+worked-requires-else-turns-lt25 : tie.Need-worked-requires-else-turns-lt25
+worked-requires-else-turns-lt25 c κs = (number_short c.before, omega arith)
 
 -- a sheet of that number is the sheet of x
-sheet_of : (c : tie.After-even) (turns : ℕ) (r : Sheet) → OnSheet (c.even.result * 2 ^ 25) (2 ^ (25 - turns)) r
+sheet_of : (c : tie.After-even-n) (turns : ℕ) (r : Sheet) → OnSheet (c.even-n.result * 2 ^ 25) (2 ^ (25 - turns)) r
     → r ≡ sheet_after c.before.before.args.x turns
 sheet_of c turns r o =
     let s = c.before.before in
@@ -54,21 +54,21 @@ with_room : (c : tie.Start) (turns : ℕ) → turns ≤ 25 → (r : Sheet) → r
 with_room c turns l r e =
     subst (λ (s : Sheet). (s.twice < 2 ^ 26) × (s.left < 2 ^ 27)) (sym e) (sheet_room c.args.x (held c) turns l)
 
-returns : tie.Need-returns
-returns c =
+returns-then-turns-lt25 : tie.Need-returns-then-turns-lt25
+returns-then-turns-lt25 c =
     let s = c.before.before.before.before in
     let e = sheet_of c.before.before s.args.turns c.worked.result c.worked.ensures in
-    (e, with_room s s.args.turns (omega (arith, c.before.if1.true)) c.worked.result e)
+    (e, with_room s s.args.turns (omega (arith, c.before.if-turns-lt25.true)) c.worked.result e)
 
-returns-2 : tie.Need-returns-2
-returns-2 c =
+returns-else-turns-lt25 : tie.Need-returns-else-turns-lt25
+returns-else-turns-lt25 c =
     let s = c.before.before.before.before in
-    let e = sheet_of c.before.before 25 c.worked2.result c.worked2.ensures in (
-      e ∙ no_more s.args.x (held s) s.args.turns c.before.if1.false,
-      with_room s 25 (omega arith) c.worked2.result e,
+    let e = sheet_of c.before.before 25 c.worked-else-turns-lt25.result c.worked-else-turns-lt25.ensures in (
+      e ∙ no_more s.args.x (held s) s.args.turns c.before.if-turns-lt25.false,
+      with_room s 25 (omega arith) c.worked-else-turns-lt25.result e,
     )
 
 pub sheet_after_spec : {M : Type 1} → statement M
 sheet_after_spec =
     tie.close
-    (tie.spec (search rules) even-requires worked-requires worked-requires-2 returns returns-2)
+    (tie.spec (search rules) even-n-requires worked-requires worked-requires-else-turns-lt25 returns-then-turns-lt25 returns-else-turns-lt25)

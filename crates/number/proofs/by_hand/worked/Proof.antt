@@ -17,14 +17,14 @@ record Stands (n turns : ℕ) (s : Sheet) (place done : ℕ) : Type 0 where
   at : place ≡ 2 ^ (25 - done)
   on : OnSheet (n * 2 ^ 25) place s
 
-abbrev invariant-loop : tie.invariant-loop
-invariant-loop n turns s₀ place₀ done₀ s place done = Stands n turns s place done
+abbrev invariant-loop-done : tie.invariant-loop-done
+invariant-loop-done n turns s₀ place₀ done₀ s place done = Stands n turns s place done
 
-abbrev decreases-loop : tie.decreases-loop
-decreases-loop n turns s₀ place₀ done₀ s place done = turns - done
+abbrev decreases-loop-done : tie.decreases-loop-done
+decreases-loop-done n turns s₀ place₀ done₀ s place done = turns - done
 
-loop-holds : tie.Need-loop-init invariant-loop decreases-loop
-loop-holds c = record {
+loop-done-init : tie.Need-loop-done-init invariant-loop-done decreases-loop-done
+loop-done-init c = record {
   few = omega arith;
   at = refl;
   on = sheet_blank c.args.n (2 ^ 25) c.requires.0;
@@ -55,32 +55,32 @@ module _ (n turns : ℕ) (s : Sheet) (place done : ℕ) (h : Stands n turns s pl
     on = f (n * 2 ^ 25) (subst (λ (q : ℕ). OnSheet (n * 2 ^ 25) q s) (sym twice_half) h.on);
   }
 
-digit-requires : tie.Need-digit-requires invariant-loop decreases-loop
-digit-requires c κs =
+digit-s-requires : tie.Need-digit-s-requires invariant-loop-done decreases-loop-done
+digit-s-requires c κs =
     let a = c.before.before in
-    let p = c.before.loop in
-    room a.args.n a.args.turns p.s p.place p.done p.invariant a.requires.1 c.loop-test.true
+    let p = c.before.loop-done in
+    room a.args.n a.args.turns p.s p.place p.done p.invariant a.requires.1 c.loop-done-test.true
     a.requires.0
 
-add_done : tie.Need-overflow-add-done invariant-loop decreases-loop
-add_done c = omega arith
+overflow_add-done : tie.Need-overflow_add-done invariant-loop-done decreases-loop-done
+overflow_add-done c = omega arith
 
-loop-less : tie.Need-loop-smaller invariant-loop decreases-loop
-loop-less c = omega arith
+loop-done-smaller : tie.Need-loop-done-smaller invariant-loop-done decreases-loop-done
+loop-done-smaller c = omega arith
 
-loop-again : tie.Need-loop-preserved invariant-loop decreases-loop
-loop-again c =
+loop-done-preserved : tie.Need-loop-done-preserved invariant-loop-done decreases-loop-done
+loop-done-preserved c =
     let a = c.before.before.before in
-    let p = c.before.before.loop in
-    next a.args.n a.args.turns p.s p.place p.done p.invariant a.requires.1 c.before.loop-test.true
-    c.digit.result c.digit.ensures
+    let p = c.before.before.loop-done in
+    next a.args.n a.args.turns p.s p.place p.done p.invariant a.requires.1 c.before.loop-done-test.true
+    c.digit-s.result c.digit-s.ensures
 
-returns : tie.Need-returns invariant-loop decreases-loop
+returns : tie.Need-returns invariant-loop-done decreases-loop-done
 returns c =
     let a = c.before.before in
-    let p = c.before.loop in
-    let e : p.done ≡ a.args.turns = let f = p.invariant.few in omega (arith, c.loop-test.false) in
+    let p = c.before.loop-done in
+    let e : p.done ≡ a.args.turns = let f = p.invariant.few in omega (arith, c.loop-done-test.false) in
     subst (λ (q : ℕ). OnSheet (a.args.n * 2 ^ 25) q p.s) (p.invariant.at ∙ ap (λ (j : ℕ). 2 ^ (25 - j)) e) p.invariant.on
 
 pub worked_spec : {M : Type 1} → statement M
-worked_spec = tie.close (tie.spec invariant-loop decreases-loop loop-holds digit-requires add_done loop-less loop-again returns)
+worked_spec = tie.close (tie.spec invariant-loop-done decreases-loop-done loop-done-init digit-s-requires overflow_add-done loop-done-smaller loop-done-preserved returns)

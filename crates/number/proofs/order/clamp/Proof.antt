@@ -3,17 +3,17 @@ use Rattle.number.specs.Number.{clamp}
 use Rattle.number.proofs.order.clamp.Statement.{statement}
 use Rattle.number.proofs.order.clamp.Tie as tie
 
-returns : tie.Need-returns
+returns-then-x-low : tie.Need-returns-then-x-low
 unfolding clamp
-returns c = rw c.if1.true
+returns-then-x-low c = rw c.if-x-low.true
 
-returns-2 : tie.Need-returns-2
+returns-then-high-x : tie.Need-returns-then-high-x
 unfolding clamp
-returns-2 c = rw (c.before.if1.false, c.if2.true)
+returns-then-high-x c = rw (c.before.if-x-low.false, c.if-high-x.true)
 
-returns-3 : tie.Need-returns-3
+returns-else-high-x : tie.Need-returns-else-high-x
 unfolding clamp
-returns-3 c = rw (c.before.if1.false, c.if2.false)
+returns-else-high-x c = rw (c.before.if-x-low.false, c.if-high-x.false)
 
 pub clamp_spec : {M : Type 1} → statement M
-clamp_spec = tie.close (tie.spec returns returns-2 returns-3)
+clamp_spec = tie.close (tie.spec returns-then-x-low returns-then-high-x returns-else-high-x)

@@ -3,13 +3,13 @@ use Rattle.number.specs.Number.{larger}
 use Rattle.number.proofs.order.larger.Statement.{statement}
 use Rattle.number.proofs.order.larger.Tie as tie
 
-returns : tie.Need-returns
+returns-then-a-b : tie.Need-returns-then-a-b
 unfolding larger
-returns c = rw c.if1.true
+returns-then-a-b c = rw c.if-a-b.true
 
-returns-2 : tie.Need-returns-2
+returns-else-a-b : tie.Need-returns-else-a-b
 unfolding larger
-returns-2 c = rw c.if1.false
+returns-else-a-b c = rw c.if-a-b.false
 
 pub larger_spec : {M : Type 1} → statement M
-larger_spec = tie.close (tie.spec returns returns-2)
+larger_spec = tie.close (tie.spec returns-then-a-b returns-else-a-b)

@@ -13,30 +13,30 @@ use Rattle.number.proofs.order.next_down.Tie as tie
 
 -- what owning an `f32` tells: the format holds it
 held : (c : tie.Start) → T (fits binary32 c.args.x)
-held c = subst T (sym c.well-formed.0.1) tt
+held c = subst T (sym c.well_formed.0.1) tt
 
 -- the way in: x is above zero
-above : (c : tie.Then1) → T (lt zero32 c.before.args.x)
-above c = subst T (sym c.if1.true) tt
+above : (c : tie.Then-x) → T (lt zero32 c.before.args.x)
+above c = subst T (sym c.if-x.true) tt
 
-float-to-bits-result : tie.Need-float-to-bits-result
-float-to-bits-result c = (no_nan_lt zero32 c.before.args.x (above c)).1
+float_to_bits-result : tie.Need-float_to_bits-result
+float_to_bits-result c = (no_nan_lt zero32 c.before.args.x (above c)).1
 
-sub-result : tie.Need-overflow-sub-result
-sub-result c = some_bits c.before.args.x (held c.before) (above c)
+overflow_sub-result : tie.Need-overflow_sub-result
+overflow_sub-result c = some_bits c.before.args.x (held c.before) (above c)
 
-float-from-bits-result : tie.Need-float-from-bits-result
-float-from-bits-result c =
+float_from_bits-result : tie.Need-float_from_bits-result
+float_from_bits-result c =
     let l = above_bits c.before.args.x (held c.before) (above c) in
     no_nan_bits (to_bits binary32 c.before.args.x - 1) (omega (arith, l))
 
-returns : tie.Need-returns
+returns-then-x : tie.Need-returns-then-x
 unfolding next_down
-returns c = rw c.if1.true
+returns-then-x c = rw c.if-x.true
 
-returns-2 : tie.Need-returns-2
+returns-else-x : tie.Need-returns-else-x
 unfolding next_down
-returns-2 c = rw c.if1.false
+returns-else-x c = rw c.if-x.false
 
 pub next_down_spec : {M : Type 1} → statement M
-next_down_spec = tie.close (tie.spec float-to-bits-result sub-result float-from-bits-result returns returns-2)
+next_down_spec = tie.close (tie.spec float_to_bits-result overflow_sub-result float_from_bits-result returns-then-x returns-else-x)

@@ -5,11 +5,11 @@ use Rattle.number.proofs.Sizes.{minus_size, own_size}
 use Rattle.number.proofs.order.size.Statement.{statement}
 use Rattle.number.proofs.order.size.Tie as tie
 
-returns : tie.Need-returns
-returns c = minus_size c.before.args.x (subst T (sym c.before.well-formed.0.1) tt) c.if1.true
+returns-then-x : tie.Need-returns-then-x
+returns-then-x c = minus_size c.before.args.x (subst T (sym c.before.well_formed.0.1) tt) c.if-x.true
 
-returns-2 : tie.Need-returns-2
-returns-2 c = own_size c.before.args.x c.if1.false
+returns-else-x : tie.Need-returns-else-x
+returns-else-x c = own_size c.before.args.x c.if-x.false
 
 pub size_spec : {M : Type 1} → statement M
-size_spec = tie.close (tie.spec returns returns-2)
+size_spec = tie.close (tie.spec returns-then-x returns-else-x)

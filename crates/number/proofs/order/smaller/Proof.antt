@@ -3,13 +3,13 @@ use Rattle.number.specs.Number.{smaller}
 use Rattle.number.proofs.order.smaller.Statement.{statement}
 use Rattle.number.proofs.order.smaller.Tie as tie
 
-returns : tie.Need-returns
+returns-then-b-a : tie.Need-returns-then-b-a
 unfolding smaller
-returns c = rw c.if1.true
+returns-then-b-a c = rw c.if-b-a.true
 
-returns-2 : tie.Need-returns-2
+returns-else-b-a : tie.Need-returns-else-b-a
 unfolding smaller
-returns-2 c = rw c.if1.false
+returns-else-b-a c = rw c.if-b-a.false
 
 pub smaller_spec : {M : Type 1} → statement M
-smaller_spec = tie.close (tie.spec returns returns-2)
+smaller_spec = tie.close (tie.spec returns-then-b-a returns-else-b-a)

@@ -3,13 +3,13 @@ use Rattle.number.specs.Number.{written}
 use Rattle.number.proofs.order.written.Statement.{statement}
 use Rattle.number.proofs.order.written.Tie as tie
 
-returns : tie.Need-returns
+returns-then-x : tie.Need-returns-then-x
 unfolding written
-returns c = rw c.if1.true
+returns-then-x c = rw c.if-x.true
 
-returns-2 : tie.Need-returns-2
+returns-else-x : tie.Need-returns-else-x
 unfolding written
-returns-2 c = rw c.if1.false
+returns-else-x c = rw c.if-x.false
 
 pub written_spec : {M : Type 1} → statement M
-written_spec = tie.close (tie.spec returns returns-2)
+written_spec = tie.close (tie.spec returns-then-x returns-else-x)

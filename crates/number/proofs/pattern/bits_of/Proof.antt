@@ -14,13 +14,13 @@ nan_bits_lem : to_bits binary32 nan ≡ 2143289344
 unfolding to_bits
 nan_bits_lem = refl
 
-returns : tie.Need-returns
-returns c =
-    let is_nan = differs_from_itself c.before.args.x (subst T (sym c.if1.true) tt) in
+returns-then-x : tie.Need-returns-then-x
+returns-then-x c =
+    let is_nan = differs_from_itself c.before.args.x (subst T (sym c.if-x.true) tt) in
     sym (ap (to_bits binary32) is_nan ∙ nan_bits_lem)
 
-float-to-bits-result : tie.Need-float-to-bits-result
-float-to-bits-result c = no_nan_ne c.before.args.x c.if1.false
+float_to_bits-result : tie.Need-float_to_bits-result
+float_to_bits-result c = no_nan_ne c.before.args.x c.if-x.false
 
 pub bits_of_spec : {M : Type 1} → statement M
-bits_of_spec = tie.close (tie.spec returns float-to-bits-result (search rules))
+bits_of_spec = tie.close (tie.spec returns-then-x float_to_bits-result (search rules))

@@ -8,12 +8,12 @@ use Rattle.number.proofs.NoNan.{nan_of}
 use Rattle.number.proofs.pattern.float_of.Statement.{statement}
 use Rattle.number.proofs.pattern.float_of.Tie as tie
 
-float-from-bits-result : tie.Need-float-from-bits-result
-float-from-bits-result c = no_nan_bits c.before.args.bits c.if1.true
+float_from_bits-result : tie.Need-float_from_bits-result
+float_from_bits-result c = no_nan_bits c.before.args.bits c.if-bits-le2139095040.true
 
-returns-2 : tie.Need-returns-2
+returns-else-bits-le2139095040 : tie.Need-returns-else-bits-le2139095040
 unfolding of_bits div
-returns-2 c = sym (nan_of c.before.args.bits c.if1.false)
+returns-else-bits-le2139095040 c = sym (nan_of c.before.args.bits c.if-bits-le2139095040.false)
 
 pub float_of_spec : {M : Type 1} → statement M
-float_of_spec = tie.close (tie.spec float-from-bits-result (search rules) returns-2)
+float_of_spec = tie.close (tie.spec float_from_bits-result (search rules) returns-else-bits-le2139095040)

@@ -6,7 +6,7 @@ use Rattle.number.proofs.range.is_finite.Statement.{statement}
 use Rattle.number.proofs.range.is_finite.Tie as tie
 
 returns : tie.Need-returns
-returns c = finite_test c.args.x (subst T (sym c.well-formed.0.1) tt)
+returns c = finite_test c.args.x (subst T (sym c.well_formed.0.1) tt)
 
 pub is_finite_spec : {M : Type 1} → statement M
 is_finite_spec = tie.close (tie.spec returns)

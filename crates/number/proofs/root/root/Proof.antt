@@ -14,48 +14,48 @@ use Rattle.number.proofs.root.root.Tie as tie
 
 -- what owning an `f32` tells: the format holds it
 held : (c : tie.Start) → T (fits binary32 c.args.x)
-held c = subst T (sym c.well-formed.0.1) tt
+held c = subst T (sym c.well_formed.0.1) tt
 
 -- the way on: there are digits
-digits : (c : tie.Else1) → let a = c.before.before in Taken a.before.args.x a.argument_of.result
+digits : (c : tie.Else-a-eq0) → let a = c.before.before in Taken a.before.args.x a.argument_of-a.result
 digits c =
     let a = c.before.before in
     let x = a.before.args.x in
-    let e = a.argument_of.ensures in
+    let e = a.argument_of-a.ensures in
     elim (taken x (held a.before)) [
       | inl t ↦ subst (Taken x) (sym e) t
       | inr z ↦
-          let n : a.argument_of.result.digits ≡ 0 = ap (λ (b : Argument). b.digits) e ∙ z.0 in
-          absurd (omega (arith, c.if1.false))
+          let n : a.argument_of-a.result.digits ≡ 0 = ap (λ (b : Argument). b.digits) e ∙ z.0 in
+          absurd (omega (arith, c.if-a-eq0.false))
     ]
 
-root-bits-requires : tie.Need-root-bits-requires
-root-bits-requires c κs = let t = digits c in (t.low, t.high, t.short)
+root_bits-requires : tie.Need-root_bits-requires
+root_bits-requires c κs = let t = digits c in (t.low, t.high, t.short)
 
-float-from-bits-result : tie.Need-float-from-bits-result
-float-from-bits-result c =
+float_from_bits-result : tie.Need-float_from_bits-result
+float_from_bits-result c =
     let t = digits c.before in
-    let a = c.before.before.before.argument_of.result in
+    let a = c.before.before.before.argument_of-a.result in
     let b = c.root_bits.result in
     no_nan_bits b
     (omega (arith, bits_lt a.digits a.exponent b t.low t.high t.short c.root_bits.ensures))
 
-returns : tie.Need-returns
-returns c =
+returns-then-a-eq0 : tie.Need-returns-then-a-eq0
+returns-then-a-eq0 c =
     let a = c.before.before in
     let x = a.before.args.x in
-    let e = ap (λ (b : Argument). b.digits) a.argument_of.ensures in
+    let e = ap (λ (b : Argument). b.digits) a.argument_of-a.ensures in
     elim (taken x (held a.before)) [
-      | inl t ↦ let l = t.low in absurd (omega (arith, c.if1.true))
+      | inl t ↦ let l = t.low in absurd (omega (arith, c.if-a-eq0.true))
       | inr z ↦ z.1
     ]
 
-returns-2 : tie.Need-returns-2
-returns-2 c =
+returns-else-a-eq0 : tie.Need-returns-else-a-eq0
+returns-else-a-eq0 c =
     let t = digits c.before in
-    let a = c.before.before.before.argument_of.result in
+    let a = c.before.before.before.argument_of-a.result in
     sym (root_is a.digits a.exponent c.root_bits.result t.low t.high t.short c.root_bits.ensures
     c.before.before.before.before.args.x t.scale t.above t.finite)
 
 pub root_spec : {M : Type 1} → statement M
-root_spec = tie.close (tie.spec (search rules) root-bits-requires float-from-bits-result returns returns-2)
+root_spec = tie.close (tie.spec (search rules) root_bits-requires float_from_bits-result returns-then-a-eq0 returns-else-a-eq0)

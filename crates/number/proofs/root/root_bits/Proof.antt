@@ -22,8 +22,8 @@ written : (c : tie.After-worked)
 written c =
     subst (λ (n : ℕ). OnSheet (n * 2 ^ 25) 2 c.worked.result) c.before.even.ensures c.worked.ensures
 
-digit-requires : tie.Need-digit-requires
-digit-requires c κs =
+digit-s-requires : tie.Need-digit-s-requires
+digit-s-requires c κs =
     let a = c.before.before.args.a in
     let n = a.digits * 2 ^ (a.exponent % 2) in
     let l : n * 2 ^ 25 < 2 ^ 50 =
@@ -33,33 +33,33 @@ digit-requires c κs =
     )
 
 -- and the one that rounds
-rounds : (c : tie.After-digit)
+rounds : (c : tie.After-digit-s)
     → let a = c.before.before.before.args.a in
-    OnSheet (a.digits * 2 ^ (a.exponent % 2) * 2 ^ 25) 1 c.digit.result
+    OnSheet (a.digits * 2 ^ (a.exponent % 2) * 2 ^ 25) 1 c.digit-s.result
 rounds c =
     let a = c.before.before.before.args.a in
-    c.digit.ensures (a.digits * 2 ^ (a.exponent % 2) * 2 ^ 25) (written c.before)
+    c.digit-s.ensures (a.digits * 2 ^ (a.exponent % 2) * 2 ^ 25) (written c.before)
 
-short : (c : tie.After-digit) → c.digit.result.twice < 2 ^ 26
+short : (c : tie.After-digit-s) → c.digit-s.result.twice < 2 ^ 26
 short c =
     let s = c.before.before.before in
-    sheet_short s.args.a.digits s.args.a.exponent s.requires.0 s.requires.1 c.digit.result (rounds c)
+    sheet_short s.args.a.digits s.args.a.exponent s.requires.0 s.requires.1 c.digit-s.result (rounds c)
 
-add-result-2 : tie.Need-overflow-add-result-2
-add-result-2 c = omega (arith, short c.before.before)
+overflow_add-result-2 : tie.Need-overflow_add-result-2
+overflow_add-result-2 c = omega (arith, short c.before.before)
 
-add-result-3 : tie.Need-overflow-add-result-3
-add-result-3 c = omega (arith, short c.before.before)
+overflow_add-result-3 : tie.Need-overflow_add-result-3
+overflow_add-result-3 c = omega (arith, short c.before.before)
 
 returns : tie.Need-returns
 returns c =
     let d = c.before.before in
     let s = d.before.before.before in
     let h = s.requires.2 in
-    sheet_rounded s.args.a.digits s.args.a.exponent s.requires.0 s.requires.1 d.digit.result (rounds d) _
+    sheet_rounded s.args.a.digits s.args.a.exponent s.requires.0 s.requires.1 d.digit-s.result (rounds d) _
     (omega arith)
 
 pub root_bits_spec : {M : Type 1} → statement M
 root_bits_spec =
     tie.close
-    (tie.spec (search rules) worked-requires digit-requires (search rules) add-result-2 add-result-3 returns)
+    (tie.spec (search rules) worked-requires digit-s-requires (search rules) overflow_add-result-2 overflow_add-result-3 returns)

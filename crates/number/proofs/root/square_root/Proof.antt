@@ -17,24 +17,24 @@ clauses x r e =
     let all = Answers.clauses (root_refusal x) (root_of x) r e in
     (e, (all.1.0, all.1.1 ∙ root_value x))
 
-returns : tie.Need-returns
+returns-then-x : tie.Need-returns-then-x
 unfolding answered root_refusal
-returns c =
+returns-then-x c =
     clauses c.before.before.before.args.x (Refused 2)
-    (rw (sym c.before.before.is_finite.ensures ∙ c.before.if1.true, c.if2.true))
+    (rw (sym c.before.before.is_finite.ensures ∙ c.before.if-is_finite.true, c.if-x.true))
 
-returns-2 : tie.Need-returns-2
+returns-else-x : tie.Need-returns-else-x
 unfolding answered root_refusal
-returns-2 c =
+returns-else-x c =
     let test = c.before.before.before.is_finite.ensures in
     clauses c.before.before.before.before.args.x (Value c.root.result)
-    (rw (sym test ∙ c.before.before.if1.true, c.before.if2.false, c.root.ensures))
+    (rw (sym test ∙ c.before.before.if-is_finite.true, c.before.if-x.false, c.root.ensures))
 
-returns-3 : tie.Need-returns-3
+returns-else-is_finite : tie.Need-returns-else-is_finite
 unfolding answered root_refusal
-returns-3 c =
-    clauses c.before.before.args.x (Refused 1) (rw (sym c.before.is_finite.ensures ∙ c.if1.false))
+returns-else-is_finite c =
+    clauses c.before.before.args.x (Refused 1) (rw (sym c.before.is_finite.ensures ∙ c.if-is_finite.false))
 
 pub square_root_spec : {M : Type 1} → statement M
 square_root_spec =
-    tie.close (tie.spec (search rules) (search rules) returns returns-2 returns-3)
+    tie.close (tie.spec (search rules) (search rules) returns-then-x returns-else-x returns-else-is_finite)
