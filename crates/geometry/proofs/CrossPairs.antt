@@ -96,6 +96,7 @@ data In (p : Cross) : List Cross → Type 0 where
   after : {q : Cross} {ps : List Cross} → In p ps → In p (q ∷ ps)
 
 in_left : {p : Cross} (ps qs : List Cross) → In p ps → In p (ps ++ qs)
+in_left {p = p} [] qs x' = elim x' [ ]
 in_left (p ∷ ps) qs here = here
 in_left (q ∷ ps) qs (after h) = after (in_left ps qs h)
 
@@ -134,5 +135,6 @@ pairs_reach {B} P f keep split p (h, k, l) turn b =
     on (r ∷ ps) b q = on ps (f b r) (keep b r q)
 
     go : (ps : List Cross) (b : B) → In p ps → P (foldl f b ps)
+    go [] b x3 = elim x3 [ ]
     go (q ∷ ps) b here = on ps (f b p) (turn b)
     go (q ∷ ps) b (after i) = go ps (f b q) i

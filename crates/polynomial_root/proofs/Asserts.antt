@@ -6,7 +6,7 @@ use native.Mathlib.Omega.{arith}
 use mathlib.Core.Path.{◌≡◌, ap, subst}
 use mathlib.Core.Bool.{Bool, true, false, cond}
 use lib.Dec.{T, lt→ltb, lit≤}
-use lib.Ieee.{Float, fin, binary32, up, down, lt, le, eq, fits, of_bits}
+use lib.Ieee.{Float, fin, binary32, up, down, lt, le, eq, fits, of_bits, inf, nan}
 use lib.Ieee.Fits.{down_pos, mul-fits}
 use Rattle.number.specs.Number.{◌⊗◌, zero32, size, smaller, larger}
 use Rattle.number.proofs.Within.{Within, within_more, mul_within}
@@ -23,6 +23,8 @@ use Rattle.polynomial_root.proofs.Ordered.{InOrder, solved_ordered}
 -- what does not count as zero is not zero
 kept_some : (c : Float) → Within 20 c → vanishes c ≡ false → eq c zero32 ≡ false
 unfolding size lt of_bits
+kept_some nan w v = elim w [ ]
+kept_some (inf _) w v = elim w [ ]
 kept_some (fin s m e) w v =
     not_so (eq (fin s m e) zero32)
     (λ h. subst T v

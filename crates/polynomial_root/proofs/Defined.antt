@@ -19,6 +19,10 @@ use Rattle.polynomial_root.proofs.Zeros.{zero_eq}
 pub quotient_no_nan : (x y : Float) → T (finite x) → T (finite y) → (eq x zero32 && eq y zero32) ≡ false
     → T (not (is_nan (x ⊘ y)))
 unfolding div
+quotient_no_nan nan y f g h = elim f [ ]
+quotient_no_nan (inf _) y f g h = elim f [ ]
+quotient_no_nan (fin s m e) nan f g h = elim g [ ]
+quotient_no_nan (fin s m e) (inf _) f g h = elim g [ ]
 quotient_no_nan (fin s m e) (fin t n d) f g h = go (eqb n 0) (eqb m 0) (eqb→eq n 0) (eqb→eq m 0)
   where
     ratio : Float
@@ -47,6 +51,8 @@ sum_no_nan s a t b c = go (beq s t) (ltb a b)
 
 pub difference_no_nan : (x y : Float) → T (finite x) → T (not (is_nan y)) → T (not (is_nan (x ⊖ y)))
 unfolding sub neg
+difference_no_nan nan y f h = elim f [ ]
+difference_no_nan (inf _) y f h = elim f [ ]
 difference_no_nan (fin s m e) nan f h = h
 difference_no_nan (fin s m e) (inf t) f h = unfold add is_nan in tt
 difference_no_nan (fin s m e) (fin t n d) f h =
@@ -55,6 +61,10 @@ difference_no_nan (fin s m e) (fin t n d) f h =
 -- ---- products
 pub product_no_nan : (x y : Float) → T (finite x) → T (finite y) → T (not (is_nan (x ⊗ y)))
 unfolding mul
+product_no_nan nan y f g = elim f [ ]
+product_no_nan (inf _) y f g = elim f [ ]
+product_no_nan (fin s m e) nan f g = elim g [ ]
+product_no_nan (fin s m e) (inf _) f g = elim g [ ]
 product_no_nan (fin s m e) (fin t n d) f g = round_no_nan (unlike s t) (m * up e * (n * up d)) (down e * down d)
 
 -- ---- the constants

@@ -32,6 +32,8 @@ use Rattle.polynomial_root.proofs.Differences.{zero_of, pos_of, units_of_lem, Si
 -- ---- the quotient of a by the difference
 within_one : (x : Float) → Within 0 x → T (le x one32)
 unfolding le lt eq of_bits
+within_one nan h = elim h [ ]
+within_one (inf _) h = elim h [ ]
 within_one (fin true m e) h =
     or_l (ltb 0 (m * up e * 1 + 1 * down e)) (eqb (m * up e * 1) (1 * down e) && eqb (m * up e * 1) 0)
     (lt→ltb 0 (m * up e * 1 + 1 * down e) (some (m * up e * 1) (down e) (down_pos e)))
@@ -153,12 +155,16 @@ no_side a = go (le a zero32) (le zero32 a)
 -- over an infinity it is a zero
 over_infinity : (a : Float) (b : Bool) → T (finite a) → T (between zero32 one32 (a ⊘ inf b))
 unfolding div
+over_infinity nan b f = elim f [ ]
+over_infinity (inf _) b f = elim f [ ]
 over_infinity (fin s m e) b f =
     let x = fin (unlike s b) 0 (pos 0) in
     and_i (le zero32 x) (le x one32) (zero_high (unlike s b) 0 (pos 0) refl) (within_one x zero-le)
 
 pub fraction_in_range : (a b : Float) → T (fits binary32 a) → T (fits binary32 b) → T (finite a)
     → opposite a b ≡ true → both_zero a b ≡ false → T (between zero32 one32 (fraction a b))
+fraction_in_range nan b f g h o z = elim h [ ]
+fraction_in_range (inf _) b f g h o z = elim h [ ]
 fraction_in_range (fin s m e) nan f g h o z = absurd (no_side (fin s m e) o)
 fraction_in_range (fin s m e) (inf t) f g h o z = unfold sub add neg in over_infinity (fin s m e) (not t) tt
 fraction_in_range (fin s m e) (fin t n d) f g h o z = over (fin s m e ⊖ fin t n d) x.0 x.1 x.2
@@ -197,6 +203,8 @@ fraction_in_range (fin s m e) (fin t n d) f g h o z = over (fin s m e ⊖ fin t 
         → T (between zero32 one32 (fin s m e ⊘ y))
     over y b (inr i) sign =
         subst (λ (y : Float). T (between zero32 one32 (fin s m e ⊘ y))) (sym i) (over_infinity (fin s m e) b tt)
+    over nan b (inl x10) sign = elim x10 [ ]
+    over (inf _) b (inl x12) sign = elim x12 [ ]
     over (fin r i j) b (inl (same, w)) sign =
         quotient s m e r i j u (rnd (u + v) 1) p.is w (grows u v p.rep)
         (positive (rnd (u + v) 1) (grows u v p.rep)

@@ -9,7 +9,7 @@ use mathlib.Core.Bool.{Bool, true, false, ◌||◌, beq}
 use lib.IntN.{ℤ}
 use lib.Dec.{T, eqb, eqb→eq, lit<}
 use lib.Pow.{pow_pos}
-use lib.Ieee.{Float, fin, binary32, up, down, round, mul, eq, unlike, fits, of_bits}
+use lib.Ieee.{Float, fin, binary32, up, down, round, mul, eq, unlike, fits, of_bits, inf, nan}
 use lib.Ieee.Fits.{down_pos, and_l}
 use lib.Ieee.Exact.{HasValue}
 use Rattle.number.specs.Number.{◌⊗◌, zero32}
@@ -29,6 +29,8 @@ not_so false h = refl
 
 pub some_eq : (x : Float) (s : Bool) (w : ℕ) → 0 < w → HasValue x s w L → eq x zero32 ≡ false
 unfolding eq of_bits
+some_eq nan s w l x3 = elim x3 [ ]
+some_eq (inf _) s w l x5 = elim x5 [ ]
 some_eq (fin t m e) s w l (same, q) = not_so (eq (fin t m e) zero32) none
   where
     none : T (eq (fin t m e) zero32) → ⊥
@@ -83,6 +85,8 @@ module _ (s : Bool) (m : ℕ) (e : ℤ) (f : T (fits binary32 (fin s m e))) (w :
 pub twice_some : (c : Float) → T (fits binary32 c) → Within 22 c → eq c zero32 ≡ false
     → eq (two32 ⊗ c) zero32 ≡ false
 unfolding mul of_bits
+twice_some nan f w n = elim w [ ]
+twice_some (inf _) f w n = elim w [ ]
 twice_some (fin s m e) f w n =
     let u = m * 2 ^ shift e in
     multiple_some s m e f w n 2 u (twice (m * up e) L u (down e) (units_of_lem s m e f).is)
@@ -97,6 +101,8 @@ twice_some (fin s m e) f w n =
 pub thrice_some : (c : Float) → T (fits binary32 c) → Within 22 c → eq c zero32 ≡ false
     → eq (three32 ⊗ c) zero32 ≡ false
 unfolding mul of_bits
+thrice_some nan f w n = elim w [ ]
+thrice_some (inf _) f w n = elim w [ ]
 thrice_some (fin s m e) f w n =
     let u = m * 2 ^ shift e in
     multiple_some s m e f w n 3 (u + u) (thrice (m * up e) L u (down e) (units_of_lem s m e f).is)

@@ -4,7 +4,7 @@ use Prim.Native.Nat.{ℕ}
 use mathlib.Core.Path.{◌≡◌, refl, sym, subst}
 use mathlib.Core.Bool.{Bool, true, false, not, ◌&&◌, cond}
 use lib.Dec.{T, lit≤}
-use lib.Ieee.{Float, fin, binary32, neg, lt, le, eq, is_nan, fits, of_bits}
+use lib.Ieee.{Float, fin, binary32, neg, lt, le, eq, is_nan, fits, of_bits, inf, nan}
 use lib.Ieee.Fits.{sub-fits}
 use lib.Ieee.Scale.{finite}
 use Rattle.number.specs.Number.{◌⊕◌, ◌⊖◌, ◌⊗◌, ◌⊘◌, zero32, one32, root_of}
@@ -62,6 +62,8 @@ sign_within c1 = go (lt c1 zero32)
 
 neg_within : (a : ℕ) (x : Float) → Within a x → Within a (neg x)
 unfolding neg
+neg_within a nan h = elim h [ ]
+neg_within a (inf _) h = elim h [ ]
 neg_within a (fin s m e) h = h
 
 module _ (c0 c1 c2 : Float) (f : T (fits binary32 c2)) (w0 : Within 22 c0) (w1 : Within 22 c1) (w2 : Within 22 c2)

@@ -87,6 +87,16 @@ module _ (a : ℕ) (m u v : ℕ) where
 
 pub within_range : (a : ℕ) (x t : Float) → T (between zero32 t x) → Within a t → Within a x
 unfolding le lt eq of_bits
+within_range a nan nan h k = elim h [ ]
+within_range a nan (inf _) h k = elim h [ ]
+within_range a (inf false) nan h k = elim h [ ]
+within_range a (inf false) (inf _) h k = elim k [ ]
+within_range a (inf true) nan h k = elim h [ ]
+within_range a (inf true) (inf _) h k = elim h [ ]
+within_range a (fin false m e) nan h k = elim k [ ]
+within_range a (fin false m e) (inf _) h k = elim k [ ]
+within_range a (fin true m e) nan h k = elim k [ ]
+within_range a (fin true m e) (inf _) h k = elim k [ ]
 within_range a nan (fin t n d) h k = absurd h
 within_range a (inf true) (fin t n d) h k = absurd h
 within_range a (inf false) (fin true n d) h k = absurd h

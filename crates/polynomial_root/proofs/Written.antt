@@ -7,7 +7,7 @@ use mathlib.Core.Path.{◌≡◌, refl, sym}
 use mathlib.Core.Logic.{inl, inr}
 use mathlib.Core.Bool.{Bool, true, false, not, cond, ◌&&◌, ◌||◌}
 use lib.Dec.{T, ltb, eqb, ltb→lt, lt→ltb, eqb→eq}
-use lib.Ieee.{Float, inf, fin, up, down, lt, le, eq, is_nan, of_bits}
+use lib.Ieee.{Float, inf, fin, up, down, lt, le, eq, is_nan, of_bits, nan}
 use lib.Ieee.Fits.{up_pos, down_pos, and_l}
 use Rattle.number.specs.Number.{zero32, written}
 use Rattle.number.proofs.Units.{none_of}
@@ -44,6 +44,10 @@ gone n u v a p q l z = none_of n u v p q (omega arith)
 
 zero_up : (a b : Float) → T (eq a zero32) → T (le a b) → T (le zero32 b)
 unfolding le lt eq of_bits
+zero_up nan b z h = elim z [ ]
+zero_up (inf _) b z h = elim z [ ]
+zero_up (fin s m e) nan z h = elim h [ ]
+zero_up (fin s m e) (inf true) z h = elim h [ ]
 zero_up (fin s m e) (inf false) z h = tt
 zero_up (fin s m e) (fin false n d) z h = plus_up (fin false n d) tt
 zero_up (fin false m e) (fin true n d) z h =
@@ -60,6 +64,15 @@ zero_up (fin true m e) (fin true n d) z h =
 
 zero_down : (a b : Float) → T (eq b zero32) → T (le a b) → T (le a zero32)
 unfolding le lt eq of_bits
+zero_down nan b z h = elim h [ ]
+zero_down (inf false) nan z h = elim z [ ]
+zero_down (inf false) (inf _) z h = elim z [ ]
+zero_down (inf true) nan z h = elim z [ ]
+zero_down (inf true) (inf _) z h = elim z [ ]
+zero_down (fin false m e) nan z h = elim z [ ]
+zero_down (fin false m e) (inf _) z h = elim z [ ]
+zero_down (fin true m e) nan z h = elim z [ ]
+zero_down (fin true m e) (inf _) z h = elim z [ ]
 zero_down (inf true) (fin t n d) z h = tt
 zero_down (inf false) (fin t n d) z h = absurd h
 zero_down (fin true m e) (fin t n d) z h = elim (eq-zero-or-pos m) [

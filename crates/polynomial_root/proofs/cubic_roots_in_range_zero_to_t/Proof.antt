@@ -26,23 +26,23 @@ promised c0 c1 c2 c3 t epsilon f e =
     let o = subst (OriginalAtOne p t epsilon) (sym e) (cubic_at_one p t epsilon (test_true f)) in
     (e, (h.tidy, (h.each, o)))
 
-returns : tie.Need-returns
+returns-then-refusal-eq0 : tie.Need-returns-then-refusal-eq0
 unfolding cubic_roots_in_range
-returns c =
+returns-then-refusal-eq0 c =
     let admit = c.before.before in
     let s = admit.before in
-    promised s.args.c0 s.args.c1 s.args.c2 s.args.c3 s.args.t s.args.epsilon s.well-formed.0.1
-    (c.cubic_roots.ensures ∙ by.taken _ _ _ _ admit.admit_cubic.ensures c.before.if1.true)
+    promised s.args.c0 s.args.c1 s.args.c2 s.args.c3 s.args.t s.args.epsilon s.well_formed.0.1
+    (c.cubic_roots.ensures ∙ by.taken _ _ _ _ admit.admit_cubic-refusal.ensures c.before.if-refusal-eq0.true)
 
-returns-2 : tie.Need-returns-2
+returns-else-refusal-eq0 : tie.Need-returns-else-refusal-eq0
 unfolding cubic_roots_in_range
-returns-2 c =
+returns-else-refusal-eq0 c =
     let admit = c.before.before in
     let s = admit.before in
-    promised s.args.c0 s.args.c1 s.args.c2 s.args.c3 s.args.t s.args.epsilon s.well-formed.0.1
-    (c.refused.ensures ∙ ap refused admit.admit_cubic.ensures
-    ∙ by.refused _ _ _ _ admit.admit_cubic.ensures c.before.if1.false)
+    promised s.args.c0 s.args.c1 s.args.c2 s.args.c3 s.args.t s.args.epsilon s.well_formed.0.1
+    (c.refused.ensures ∙ ap refused admit.admit_cubic-refusal.ensures
+    ∙ by.refused _ _ _ _ admit.admit_cubic-refusal.ensures c.before.if-refusal-eq0.false)
 
 pub cubic_roots_in_range_zero_to_t_spec : {M : Type 1} → statement M
 cubic_roots_in_range_zero_to_t_spec =
-    tie.close (tie.spec (search rules) (search rules) (search rules) returns returns-2)
+    tie.close (tie.spec (search rules) (search rules) (search rules) returns-then-refusal-eq0 returns-else-refusal-eq0)

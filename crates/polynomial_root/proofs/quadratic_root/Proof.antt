@@ -18,34 +18,34 @@ promised c0 c1 c2 f e =
     let q = subst Quadratic (sym e) (quadratic_promises c0 c1 c2 (test_true f)) in
     (e, (q.numbers.tidy, (q.numbers.each, q.two)))
 
+returns-then-refusal-ne0 : tie.Need-returns-then-refusal-ne0
+unfolding quadratic_root
+returns-then-refusal-ne0 c =
+    let admit = c.before.before in
+    let s = admit.before in
+    promised s.args.c0 s.args.c1 s.args.c2 s.well_formed.1.1.0.1
+    (c.refused.ensures ∙ ap refused admit.admit_quadratic-refusal.ensures
+    ∙ by.refused _ _ _ _ admit.admit_quadratic-refusal.ensures c.before.if-refusal-ne0.true)
+
+returns-then-c2 : tie.Need-returns-then-c2
+unfolding quadratic_root
+returns-then-c2 c =
+    let admit = c.before.before.before in
+    let s = admit.before in
+    promised s.args.c0 s.args.c1 s.args.c2 s.well_formed.1.1.0.1
+    (rw c.before.if-c2.true
+    (c.refused-then-c2.ensures ∙ by.taken _ _ _ _ admit.admit_quadratic-refusal.ensures c.before.before.if-refusal-ne0.false))
+
 returns : tie.Need-returns
 unfolding quadratic_root
 returns c =
-    let admit = c.before.before in
-    let s = admit.before in
-    promised s.args.c0 s.args.c1 s.args.c2 s.well-formed.1.1.0.1
-    (c.refused.ensures ∙ ap refused admit.admit_quadratic.ensures
-    ∙ by.refused _ _ _ _ admit.admit_quadratic.ensures c.before.if1.true)
-
-returns-2 : tie.Need-returns-2
-unfolding quadratic_root
-returns-2 c =
-    let admit = c.before.before.before in
-    let s = admit.before in
-    promised s.args.c0 s.args.c1 s.args.c2 s.well-formed.1.1.0.1
-    (rw c.before.if2.true
-    (c.refused2.ensures ∙ by.taken _ _ _ _ admit.admit_quadratic.ensures c.before.before.if1.false))
-
-returns-3 : tie.Need-returns-3
-unfolding quadratic_root
-returns-3 c =
     let admit = c.before.before.before.before in
     let s = admit.before in
-    promised s.args.c0 s.args.c1 s.args.c2 s.well-formed.1.1.0.1
-    (rw (c.before.before.if2.false, ← c.before.solve.ensures)
-    (c.all_roots.ensures ∙ by.taken _ _ _ _ admit.admit_quadratic.ensures c.before.before.before.if1.false))
+    promised s.args.c0 s.args.c1 s.args.c2 s.well_formed.1.1.0.1
+    (rw (c.before.before.if-c2.false, ← c.before.solve.ensures)
+    (c.all_roots.ensures ∙ by.taken _ _ _ _ admit.admit_quadratic-refusal.ensures c.before.before.before.if-refusal-ne0.false))
 
 pub quadratic_root_spec : {M : Type 1} → statement M
 quadratic_root_spec =
     tie.close
-    (tie.spec (search rules) (search rules) returns (search rules) returns-2 (search rules) (search rules) returns-3)
+    (tie.spec (search rules) (search rules) returns-then-refusal-ne0 (search rules) returns-then-c2 (search rules) (search rules) returns)

@@ -10,14 +10,14 @@ use Rattle.text.proofs.Puts.{keeps_length}
 use Rattle.text.proofs.put_byte.Statement.{statement}
 use Rattle.text.proofs.put_byte.Tie as tie
 
-written : (c : tie.Joined1)
-    → Put c.before.args.out.now c.before.args.at (c.before.args.b ∷ []) c.if1.out
+written : (c : tie.Joined-at-out)
+    → Put c.before.args.out.now c.before.args.at (c.before.args.b ∷ []) c.if-at-out.out
     (c.before.args.at + 1)
 written c = record {
   wrote =
       ⊎_elim (λ w. w.1)
       (λ w. w.1 ∙ sym (set_out c.before.args.out.now c.before.args.at c.before.args.b w.0.left))
-      c.if1.branch;
+      c.if-at-out.branch;
   moved = refl;
 }
 

@@ -9,8 +9,8 @@ use Rattle.text.proofs.Widths.{decimal_few, width_is}
 use Rattle.text.proofs.put_decimal.Statement.{statement}
 use Rattle.text.proofs.put_decimal.Tie as tie
 
-few : (c : tie.After-decimal) → c.decimal.result ≤ 10
-few c = decimal_few c.before.before.before.args.n c.decimal.result (search rules) c.decimal.ensures.1.0
+few : (c : tie.After-decimal-k) → c.decimal-k.result ≤ 10
+few c = decimal_few c.before.before.before.args.n c.decimal-k.result (search rules) c.decimal-k.ensures.1.0
 
 returns : tie.Need-returns
 unfolding decimal
@@ -19,8 +19,8 @@ returns c =
     let made = put.before.before.before in
     let n = made.before.before.before.args.n in
     let short = few made in
-    let width = width_is 9 n made.decimal.result made.decimal.ensures.1.0 short in (
-      as_text (made.decimal.ensures.1.1 ∙ ap (λ (k : ℕ). last_digits 10 k n) width) put.put_bytes.ensures,
+    let width = width_is 9 n made.decimal-k.result made.decimal-k.ensures.1.0 short in (
+      as_text (made.decimal-k.ensures.1.1 ∙ ap (λ (k : ℕ). last_digits 10 k n) width) put.put_bytes.ensures,
       search rules,
     )
 

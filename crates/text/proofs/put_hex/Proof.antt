@@ -9,8 +9,8 @@ use Rattle.text.proofs.Widths.{hex_eight}
 use Rattle.text.proofs.put_hex.Statement.{statement}
 use Rattle.text.proofs.put_hex.Tie as tie
 
-eight : (c : tie.After-hex) → c.hex.result ≡ 8
-eight c = hex_eight c.before.before.before.args.n c.hex.result (search rules) c.hex.ensures.1.0
+eight : (c : tie.After-hex-k) → c.hex-k.result ≡ 8
+eight c = hex_eight c.before.before.before.args.n c.hex-k.result (search rules) c.hex-k.ensures.1.0
 
 returns : tie.Need-returns
 unfolding hex
@@ -19,7 +19,7 @@ returns c =
     let made = put.before.before.before in
     let n = made.before.before.before.args.n in
     let short = eight made in (
-      as_text (made.hex.ensures.1.1 ∙ ap (λ (k : ℕ). last_digits 16 k n) short) put.put_bytes.ensures,
+      as_text (made.hex-k.ensures.1.1 ∙ ap (λ (k : ℕ). last_digits 16 k n) short) put.put_bytes.ensures,
       search rules,
     )
 

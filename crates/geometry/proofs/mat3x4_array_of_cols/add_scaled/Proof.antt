@@ -6,9 +6,9 @@ use Rattle.geometry.proofs.mat3x4_array_of_cols.add_scaled.Tie as tie
 returns : tie.Need-returns
 returns c =
     rw (
-      c.along4.ensures,
-      c.before.along3.ensures,
-      c.before.before.along2.ensures,
+      c.along-4.ensures,
+      c.before.along-3.ensures,
+      c.before.before.along-2.ensures,
       c.before.before.before.along.ensures,
     )
 

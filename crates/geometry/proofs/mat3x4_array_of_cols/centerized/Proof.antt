@@ -6,11 +6,11 @@ use Rattle.geometry.proofs.mat3x4_array_of_cols.centerized.Tie as tie
 returns : tie.Need-returns
 returns c =
     rw (
-      c.sub4.ensures,
-      c.before.sub3.ensures,
-      c.before.before.sub2.ensures,
+      c.sub-4.ensures,
+      c.before.sub-3.ensures,
+      c.before.before.sub-2.ensures,
       c.before.before.before.sub.ensures,
-      c.before.before.before.before.centre.ensures,
+      c.before.before.before.before.centre-m.ensures,
     )
 
 pub centerized_spec : {M : Type 1} → statement M

@@ -6,9 +6,9 @@ use Rattle.geometry.proofs.mat3x4_array_of_cols.scaled.Tie as tie
 returns : tie.Need-returns
 returns c =
     rw (
-      c.times4.ensures,
-      c.before.times3.ensures,
-      c.before.before.times2.ensures,
+      c.times-4.ensures,
+      c.before.times-3.ensures,
+      c.before.before.times-2.ensures,
       c.before.before.before.times.ensures,
     )
 

@@ -17,47 +17,47 @@ ranged_by : (p : Cubic) (t epsilon : Float) (v a b d e f g : Bool) → a ≡ in_
     → (a && b && d && e && f && g) ≡ v → ranged_cubic p t epsilon ≡ v
 ranged_by p t epsilon v a b d e f g ea eb ed ee ef eg h = rw (← ea, ← eb, ← ed, ← ee, ← ef, ← eg) h
 
-module _ (c : tie.After-zero-to-bound) where
-  abbrev third : tie.After-in-bound3
+module _ (c : tie.After-zero_to_bound) where
+  abbrev third : tie.After-in_bound-3
   third = c.before.before.before
 
   abbrev call : tie.Start
   call = third.before.before.before
 
   ranged : (v : Bool)
-      → (third.before.before.in_bound.result && third.before.in-bound2.result && third.in-bound3.result
-      && c.before.before.in-bound4.result && c.before.above_zero_to_one.result && c.zero_to_bound.result) ≡ v
+      → (third.before.before.in_bound.result && third.before.in_bound-2.result && third.in_bound-3.result
+      && c.before.before.in_bound-4.result && c.before.above_zero_to_one.result && c.zero_to_bound.result) ≡ v
       → ranged_cubic call.args.p call.args.t call.args.epsilon ≡ v
   ranged v e =
-      ranged_by call.args.p call.args.t call.args.epsilon v _ _ _ _ _ _ third.before.before.in_bound.ensures third.before.in-bound2.ensures
-      third.in-bound3.ensures c.before.before.in-bound4.ensures c.before.above_zero_to_one.ensures
+      ranged_by call.args.p call.args.t call.args.epsilon v _ _ _ _ _ _ third.before.before.in_bound.ensures third.before.in_bound-2.ensures
+      third.in_bound-3.ensures c.before.before.in_bound-4.ensures c.before.above_zero_to_one.ensures
       c.zero_to_bound.ensures e
 
-returns : tie.Need-returns
-returns c =
+returns-then-in_bound-above_zero_to_one : tie.Need-returns-then-in_bound-above_zero_to_one
+returns-then-in_bound-above_zero_to_one c =
     let a = (call c.before).args in
     ranged_none (finite_cubic a.p a.t a.epsilon) (ranged_cubic a.p a.t a.epsilon)
-    (cubic_real a.p a.t a.epsilon) (ranged c.before true c.if1.true)
+    (cubic_real a.p a.t a.epsilon) (ranged c.before true c.if-in_bound-above_zero_to_one.true)
 
-returns-2 : tie.Need-returns-2
-returns-2 c =
+returns-else-in_bound-above_zero_to_one : tie.Need-returns-else-in_bound-above_zero_to_one
+returns-else-in_bound-above_zero_to_one c =
     let sixth = c.before in
     let third = sixth.before.before.before in
     let test = third.before.before.before in
     let a = (call test.before).args in
     c.verdict.ensures
     ∙ rw (
-      sixth.is-finite6.ensures,
-      sixth.before.is-finite5.ensures,
-      sixth.before.before.is-finite4.ensures,
-      third.is-finite3.ensures,
-      third.before.is-finite2.ensures,
+      sixth.is_finite-else-in_bound-above_zero_to_one-5.ensures,
+      sixth.before.is_finite-else-in_bound-above_zero_to_one-4.ensures,
+      sixth.before.before.is_finite-else-in_bound-above_zero_to_one-3.ensures,
+      third.is_finite-else-in_bound-above_zero_to_one-2.ensures,
+      third.before.is_finite-else-in_bound-above_zero_to_one.ensures,
       third.before.before.is_finite.ensures,
     )
     (ranged_beyond (finite_cubic a.p a.t a.epsilon) (ranged_cubic a.p a.t a.epsilon)
-    (ranged test.before false test.if1.false))
+    (ranged test.before false test.if-in_bound-above_zero_to_one.false))
 
 pub admit_cubic_spec : {M : Type 1} → statement M
 admit_cubic_spec =
     tie.close
-    (tie.spec (search rules) (search rules) (search rules) (search rules) (search rules) (search rules) (search rules) (search rules) (search rules) (search rules) (search rules) (search rules) (search rules) returns returns-2)
+    (tie.spec (search rules) (search rules) (search rules) (search rules) (search rules) (search rules) (search rules) (search rules) (search rules) (search rules) (search rules) (search rules) (search rules) returns-then-in_bound-above_zero_to_one returns-else-in_bound-above_zero_to_one)

@@ -15,7 +15,7 @@ ranged_by : (c0 c1 c2 : Float) (v a b d : Bool) → a ≡ in_bound c0 → b ≡ 
     → (in_bound c0 && in_bound c1 && in_bound c2) ≡ v
 ranged_by c0 c1 c2 v a b d ea eb ed e = rw (← ea, ← eb, ← ed) e
 
-module _ (c : tie.After-in-bound3) where
+module _ (c : tie.After-in_bound-3) where
   abbrev call : tie.Start
   call = c.before.before.before
 
@@ -25,27 +25,27 @@ module _ (c : tie.After-in-bound3) where
   abbrev bounded : Bool
   bounded = in_bound call.args.c0 && in_bound call.args.c1 && in_bound call.args.c2
 
-  ranged : (v : Bool) → (c.before.before.in_bound.result && c.before.in-bound2.result && c.in-bound3.result) ≡ v
+  ranged : (v : Bool) → (c.before.before.in_bound.result && c.before.in_bound-2.result && c.in_bound-3.result) ≡ v
       → bounded ≡ v
   ranged v e =
       ranged_by call.args.c0 call.args.c1 call.args.c2 v _ _ _ c.before.before.in_bound.ensures
-      c.before.in-bound2.ensures c.in-bound3.ensures e
+      c.before.in_bound-2.ensures c.in_bound-3.ensures e
 
-returns : tie.Need-returns
-returns c =
+returns-then-in_bound : tie.Need-returns-then-in_bound
+returns-then-in_bound c =
     let a = (call c.before).args in
     ranged_none (finite c.before) (bounded c.before) (quadratic_real a.c0 a.c1 a.c2)
-    (ranged c.before true c.if1.true)
+    (ranged c.before true c.if-in_bound.true)
 
-returns-2 : tie.Need-returns-2
-returns-2 c =
+returns-else-in_bound : tie.Need-returns-else-in_bound
+returns-else-in_bound c =
     let reals = c.before in
     let test = reals.before.before.before in
     c.verdict.ensures
-    ∙ rw (reals.is-finite3.ensures, reals.before.is-finite2.ensures, reals.before.before.is_finite.ensures)
-    (ranged_beyond (finite test.before) (bounded test.before) (ranged test.before false test.if1.false))
+    ∙ rw (reals.is_finite-else-in_bound-2.ensures, reals.before.is_finite-else-in_bound.ensures, reals.before.before.is_finite.ensures)
+    (ranged_beyond (finite test.before) (bounded test.before) (ranged test.before false test.if-in_bound.false))
 
 pub admit_quadratic_spec : {M : Type 1} → statement M
 admit_quadratic_spec =
     tie.close
-    (tie.spec (search rules) (search rules) (search rules) (search rules) (search rules) (search rules) (search rules) returns returns-2)
+    (tie.spec (search rules) (search rules) (search rules) (search rules) (search rules) (search rules) (search rules) returns-then-in_bound returns-else-in_bound)

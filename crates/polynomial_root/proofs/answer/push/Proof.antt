@@ -5,15 +5,15 @@ use Rattle.polynomial_root.specs.Roots.{push}
 use Rattle.polynomial_root.proofs.answer.push.Statement.{statement}
 use Rattle.polynomial_root.proofs.answer.push.Tie as tie
 
+returns-then-n-ge3 : tie.Need-returns-then-n-ge3
+unfolding push
+returns-then-n-ge3 c = rw (le-ltb _ _ c.if-n-ge3.true)
+
 returns : tie.Need-returns
 unfolding push
-returns c = rw (le-ltb _ _ c.if1.true)
-
-returns-2 : tie.Need-returns-2
-unfolding push
-returns-2 c = rw (lt-ltb _ _ c.before.before.if1.false) (cc)
+returns c = rw (lt-ltb _ _ c.before.before.if-n-ge3.false) (cc)
 
 pub push_spec : {M : Type 1} → statement M
 push_spec =
     tie.close
-    (tie.spec returns (search rules) (search rules) (search rules) (search rules) (search rules) returns-2)
+    (tie.spec returns-then-n-ge3 (search rules) (search rules) (search rules) (search rules) (search rules) returns)

@@ -5,13 +5,13 @@ use Rattle.polynomial_root.specs.Roots.{after}
 use Rattle.polynomial_root.proofs.cubic.after.Statement.{statement}
 use Rattle.polynomial_root.proofs.cubic.after.Tie as tie
 
-returns : tie.Need-returns
+returns-then-a-eq0 : tie.Need-returns-then-a-eq0
 unfolding after
-returns c = rw (eq-eqb _ _ c.before.if1.true) c.joined.ensures
+returns-then-a-eq0 c = rw (eq-eqb _ _ c.before.if-a-eq0.true) c.joined.ensures
 
-returns-2 : tie.Need-returns-2
+returns-else-a-eq0 : tie.Need-returns-else-a-eq0
 unfolding after
-returns-2 c = rw (ne_eqb _ _ c.if1.false)
+returns-else-a-eq0 c = rw (ne_eqb _ _ c.if-a-eq0.false)
 
 pub after_spec : {M : Type 1} → statement M
-after_spec = tie.close (tie.spec (search rules) returns returns-2)
+after_spec = tie.close (tie.spec (search rules) returns-then-a-eq0 returns-else-a-eq0)

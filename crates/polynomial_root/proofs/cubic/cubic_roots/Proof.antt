@@ -5,17 +5,17 @@ use Rattle.polynomial_root.specs.Roots.{cubic_roots}
 use Rattle.polynomial_root.proofs.cubic.cubic_roots.Statement.{statement}
 use Rattle.polynomial_root.proofs.cubic.cubic_roots.Tie as tie
 
-returns : tie.Need-returns
+returns-then-vanishes : tie.Need-returns-then-vanishes
 unfolding cubic_roots
-returns c = rw (← c.before.before.vanishes.ensures, c.before.if1.true) c.lower_roots.ensures
+returns-then-vanishes c = rw (← c.before.before.vanishes.ensures, c.before.if-vanishes.true) c.lower_roots.ensures
 
-returns-2 : tie.Need-returns-2
+returns-else-vanishes : tie.Need-returns-else-vanishes
 unfolding cubic_roots
-returns-2 c =
+returns-else-vanishes c =
     let s = c.before in
     let d = s.before.before.before in
-    rw (← d.before.vanishes.ensures, d.if1.false, c.span_roots.ensures, s.solve.ensures)
+    rw (← d.before.vanishes.ensures, d.if-vanishes.false, c.span_roots.ensures, s.solve.ensures)
 
 pub cubic_roots_spec : {M : Type 1} → statement M
 cubic_roots_spec =
-    tie.close (tie.spec (search rules) (search rules) (search rules) (search rules) returns returns-2)
+    tie.close (tie.spec (search rules) (search rules) (search rules) (search rules) returns-then-vanishes returns-else-vanishes)

@@ -4,20 +4,20 @@ use Rattle.polynomial_root.specs.Roots.{joined}
 use Rattle.polynomial_root.proofs.cubic.joined.Statement.{statement}
 use Rattle.polynomial_root.proofs.cubic.joined.Tie as tie
 
-returns : tie.Need-returns
+returns-in-Nothing : tie.Need-returns-in-Nothing
 unfolding joined
-returns c = rw c.enum_told.given.1
+returns-in-Nothing c = rw c.in-Nothing.is
 
-returns-2 : tie.Need-returns-2
+returns-in-Root : tie.Need-returns-in-Root
 unfolding joined
-returns-2 c = rw c.before.before.f.given.1 c.push.ensures
+returns-in-Root c = rw c.before.in-Root.is c.push.ensures
 
-returns-3 : tie.Need-returns-3
+returns-in-Refused : tie.Need-returns-in-Refused
 unfolding joined
-returns-3 c = rw c.before.before.f2.given.1 c.refused.ensures
+returns-in-Refused c = rw c.before.in-Refused.is c.refused.ensures
 
 pub joined_spec : {M : Type 1} → statement M
 joined_spec =
     tie.close
-    (tie.spec (search rules) (search rules) (search rules) (search rules) (search rules) returns returns-2
-    returns-3)
+    (tie.spec (search rules) (search rules) (search rules) (search rules) (search rules) returns-in-Nothing returns-in-Root
+    returns-in-Refused)

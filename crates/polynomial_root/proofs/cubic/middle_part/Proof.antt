@@ -3,24 +3,24 @@ use borrow.Author.Rules.{rules}
 use Rattle.polynomial_root.proofs.cubic.middle_part.Statement.{statement}
 use Rattle.polynomial_root.proofs.cubic.middle_part.Tie as tie
 
-returns : tie.Need-returns
-returns c =
+returns-then-e0-t : tie.Need-returns-then-e0-t
+returns-then-e0-t c =
     let to = c.before in
     let least = to.before in
     let from = least.before in
     rw (
-      from.before.before.if1.true,
+      from.before.before.if-e0-t.true,
       c.span_root.ensures,
-      from.end_at.ensures,
+      from.end_at-from.ensures,
       from.before.larger.ensures,
-      to.end-at2.ensures,
+      to.end_at.ensures,
       least.smaller.ensures,
     )
 
-returns-2 : tie.Need-returns-2
-returns-2 c = rw c.if1.false
+returns-else-e0-t : tie.Need-returns-else-e0-t
+returns-else-e0-t c = rw c.if-e0-t.false
 
 pub middle_part_spec : {M : Type 1} → statement M
 middle_part_spec =
     tie.close
-    (tie.spec (search rules) (search rules) (search rules) (search rules) (search rules) returns returns-2)
+    (tie.spec (search rules) (search rules) (search rules) (search rules) (search rules) returns-then-e0-t returns-else-e0-t)

@@ -4,13 +4,13 @@ use Rattle.polynomial_root.specs.Roots.{keep}
 use Rattle.polynomial_root.proofs.lower.keep.Statement.{statement}
 use Rattle.polynomial_root.proofs.lower.keep.Tie as tie
 
-returns : tie.Need-returns
+returns-then-r-t : tie.Need-returns-then-r-t
 unfolding keep
-returns c = rw c.before.if1.true c.push.ensures
+returns-then-r-t c = rw c.before.if-r-t.true c.push.ensures
 
-returns-2 : tie.Need-returns-2
+returns-else-r-t : tie.Need-returns-else-r-t
 unfolding keep
-returns-2 c = rw c.if1.false
+returns-else-r-t c = rw c.if-r-t.false
 
 pub keep_spec : {M : Type 1} → statement M
-keep_spec = tie.close (tie.spec (search rules) returns returns-2)
+keep_spec = tie.close (tie.spec (search rules) returns-then-r-t returns-else-r-t)

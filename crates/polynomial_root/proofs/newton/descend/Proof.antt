@@ -9,47 +9,47 @@ use Rattle.polynomial_root.proofs.Steps.{Stands, out_of_steps, stops, refuses, g
 use Rattle.polynomial_root.proofs.newton.descend.Statement.{statement}
 use Rattle.polynomial_root.proofs.newton.descend.Tie as tie
 
-abbrev invariant-loop : tie.invariant-loop
-invariant-loop p t epsilon guess r₀ i₀ r i = Stands p t epsilon (descend p t epsilon newton_steps guess) i r
+abbrev invariant-loop-i : tie.invariant-loop-i
+invariant-loop-i p t epsilon guess r₀ i₀ r i = Stands p t epsilon (descend p t epsilon newton_steps guess) i r
 
-abbrev decreases-loop : tie.decreases-loop
-decreases-loop p t epsilon guess r₀ i₀ r i = newton_steps - i
+abbrev decreases-loop-i : tie.decreases-loop-i
+decreases-loop-i p t epsilon guess r₀ i₀ r i = newton_steps - i
 
-loop-holds : tie.Need-loop-init invariant-loop decreases-loop
-loop-holds c = capped_start _ _ _
+loop-i-init : tie.Need-loop-i-init invariant-loop-i decreases-loop-i
+loop-i-init c = capped_start _ _ _
 
-returns : tie.Need-returns invariant-loop decreases-loop
-returns c =
+returns-then-size-epsilon : tie.Need-returns-then-size-epsilon invariant-loop-i decreases-loop-i
+returns-then-size-epsilon c =
     let value = c.before.before in
-    let at = value.before.before.loop in
-    stops _ _ _ at.r at.i _ at.invariant (omega arith) _ value.value_at.ensures _ c.before.size.ensures
-    c.if1.true
+    let at = value.before.before.loop-i in
+    stops _ _ _ at.r at.i _ at.invariant (omega arith) _ value.value_at-f.ensures _ c.before.size.ensures
+    c.if-size-epsilon.true
 
-returns-2 : tie.Need-returns-2 invariant-loop decreases-loop
-returns-2 c =
+returns-then-f-d : tie.Need-returns-then-f-d invariant-loop-i decreases-loop-i
+returns-then-f-d c =
     let test = c.before.before in
     let value = test.before.before in
-    let at = value.before.before.loop in
-    refuses _ _ _ at.r at.i _ at.invariant (omega arith) _ value.value_at.ensures _
-    test.before.size.ensures test.if1.false _ c.before.slope_at.ensures c.if2.true
+    let at = value.before.before.loop-i in
+    refuses _ _ _ at.r at.i _ at.invariant (omega arith) _ value.value_at-f.ensures _
+    test.before.size.ensures test.if-size-epsilon.false _ c.before.slope_at-d.ensures c.if-f-d.true
 
-loop-again : tie.Need-loop-preserved invariant-loop decreases-loop
-loop-again c =
+loop-i-preserved : tie.Need-loop-i-preserved invariant-loop-i decreases-loop-i
+loop-i-preserved c =
     let slope = c.before.before in
     let test = slope.before in
     let value = test.before.before in
-    let at = value.before.before.loop in
-    goes_on _ _ _ at.r at.i _ at.invariant (omega arith) _ value.value_at.ensures _
-    test.before.size.ensures test.if1.false _ slope.slope_at.ensures c.before.if2.false _
-    c.clamp.ensures
+    let at = value.before.before.loop-i in
+    goes_on _ _ _ at.r at.i _ at.invariant (omega arith) _ value.value_at-f.ensures _
+    test.before.size.ensures test.if-size-epsilon.false _ slope.slope_at-d.ensures c.before.if-f-d.false _
+    c.clamp-r.ensures
 
-returns-3 : tie.Need-returns-3 invariant-loop decreases-loop
-returns-3 c =
-    let at = c.before.loop in
+returns : tie.Need-returns invariant-loop-i decreases-loop-i
+returns c =
+    let at = c.before.loop-i in
     out_of_steps _ _ _ at.r at.i _ at.invariant (λ (h : at.i < newton_steps). omega arith)
 
 pub descend_spec : {M : Type 1} → statement M
 descend_spec =
     tie.close
-    (tie.spec invariant-loop decreases-loop loop-holds (search rules) (search rules) returns (search rules) returns-2
-    (search rules) (λ c. omega arith) (λ c. omega arith) loop-again returns-3)
+    (tie.spec invariant-loop-i decreases-loop-i loop-i-init (search rules) (search rules) returns-then-size-epsilon (search rules) returns-then-f-d
+    (search rules) (λ c. omega arith) (λ c. omega arith) loop-i-preserved returns)

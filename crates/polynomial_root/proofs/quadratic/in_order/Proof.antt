@@ -2,11 +2,11 @@
 use Rattle.polynomial_root.proofs.quadratic.in_order.Statement.{statement}
 use Rattle.polynomial_root.proofs.quadratic.in_order.Tie as tie
 
-returns : tie.Need-returns
-returns c = rw c.if1.true
+returns-then-a-b : tie.Need-returns-then-a-b
+returns-then-a-b c = rw c.if-a-b.true
 
-returns-2 : tie.Need-returns-2
-returns-2 c = rw c.if1.false
+returns-else-a-b : tie.Need-returns-else-a-b
+returns-else-a-b c = rw c.if-a-b.false
 
 pub in_order_spec : {M : Type 1} → statement M
-in_order_spec = tie.close (tie.spec returns returns-2)
+in_order_spec = tie.close (tie.spec returns-then-a-b returns-else-a-b)

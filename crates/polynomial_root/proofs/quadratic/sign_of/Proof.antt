@@ -2,11 +2,11 @@
 use Rattle.polynomial_root.proofs.quadratic.sign_of.Statement.{statement}
 use Rattle.polynomial_root.proofs.quadratic.sign_of.Tie as tie
 
-returns : tie.Need-returns
-returns c = rw c.if1.true
+returns-then-c1 : tie.Need-returns-then-c1
+returns-then-c1 c = rw c.if-c1.true
 
-returns-2 : tie.Need-returns-2
-returns-2 c = rw c.if1.false
+returns-else-c1 : tie.Need-returns-else-c1
+returns-else-c1 c = rw c.if-c1.false
 
 pub sign_of_spec : {M : Type 1} → statement M
-sign_of_spec = tie.close (tie.spec returns returns-2)
+sign_of_spec = tie.close (tie.spec returns-then-c1 returns-else-c1)

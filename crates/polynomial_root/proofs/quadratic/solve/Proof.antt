@@ -4,23 +4,23 @@ use Rattle.polynomial_root.specs.Roots.{solved}
 use Rattle.polynomial_root.proofs.quadratic.solve.Statement.{statement}
 use Rattle.polynomial_root.proofs.quadratic.solve.Tie as tie
 
-returns : tie.Need-returns
+returns-then-d : tie.Need-returns-then-d
 unfolding solved
-returns c = rw c.if1.true
+returns-then-d c = rw c.if-d.true
 
-returns-2 : tie.Need-returns-2
+returns-then-s : tie.Need-returns-then-s
 unfolding solved
-returns-2 c =
-    rw (c.before.before.before.if1.false, ← c.before.before.stable.ensures, c.before.if2.true)
+returns-then-s c =
+    rw (c.before.before.before.if-d.false, ← c.before.before.stable-s.ensures, c.before.if-s.true)
     c.in_order.ensures
 
-returns-3 : tie.Need-returns-3
+returns-else-s : tie.Need-returns-else-s
 unfolding solved
-returns-3 c =
-    rw (c.before.before.before.if1.false, ← c.before.before.stable.ensures, c.before.if2.false)
-    c.in-order2.ensures
+returns-else-s c =
+    rw (c.before.before.before.if-d.false, ← c.before.before.stable-s.ensures, c.before.if-s.false)
+    c.in_order-else-s.ensures
 
 pub solve_spec : {M : Type 1} → statement M
 solve_spec =
     tie.close
-    (tie.spec returns (search rules) (search rules) (search rules) returns-2 returns-3)
+    (tie.spec returns-then-d (search rules) (search rules) (search rules) returns-then-s returns-else-s)

@@ -4,13 +4,13 @@ use Rattle.polynomial_root.specs.Roots.{started}
 use Rattle.polynomial_root.proofs.span.started.Statement.{statement}
 use Rattle.polynomial_root.proofs.span.started.Tie as tie
 
-returns : tie.Need-returns
+returns-then-guess-t : tie.Need-returns-then-guess-t
 unfolding started
-returns c = rw c.before.if1.true c.descend.ensures
+returns-then-guess-t c = rw c.before.if-guess-t.true c.descend.ensures
 
-returns-2 : tie.Need-returns-2
+returns-else-guess-t : tie.Need-returns-else-guess-t
 unfolding started
-returns-2 c = rw c.if1.false
+returns-else-guess-t c = rw c.if-guess-t.false
 
 pub started_spec : {M : Type 1} → statement M
-started_spec = tie.close (tie.spec (search rules) returns returns-2)
+started_spec = tie.close (tie.spec (search rules) returns-then-guess-t returns-else-guess-t)
