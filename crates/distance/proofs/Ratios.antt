@@ -7,7 +7,7 @@ use mathlib.Core.Path.{◌≡◌, refl, subst}
 use mathlib.Core.Bool.{Bool, true, false, not, ◌||◌, cond}
 use mathlib.Core.List.{List}
 use lib.Dec.{T, lit<}
-use lib.Ieee.{Float, fin, lt, le, eq, is_nan, of_bits}
+use lib.Ieee.{Float, fin, lt, le, eq, is_nan, of_bits, inf, nan}
 use lib.Ieee.Fits.{and_i}
 use Rattle.number.specs.Number.{◌⊗◌, ◌⊕◌, ◌⊘◌, zero32, one32, clamp, zero_to_one}
 use Rattle.number.proofs.Units.{plus}
@@ -43,6 +43,8 @@ le_opens x h = h
 
 no_nan : (a : ℕ) (x : Float) → Within a x → T (not (is_nan x))
 unfolding is_nan
+no_nan a nan h = elim h [ ]
+no_nan a (inf _) h = elim h [ ]
 no_nan a (fin s m e) h = tt
 
 -- what has the sign plus and is not zero is above zero

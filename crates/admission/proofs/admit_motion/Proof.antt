@@ -25,23 +25,23 @@ module _ (x dx : List (List Float)) (p q : Bool) (ep : p ≡ bounded_points x) (
   left e =
       ranged_beyond (finite_points x && finite_points dx) (bounded_points x && bounded_points dx) (rw (← ep, ← eq) e)
 
-returns : tie.Need-returns
-returns c =
+returns-then-points_in_bound : tie.Need-returns-then-points_in_bound
+returns-then-points_in_bound c =
     let p = c.before.before in
     let a = p.before.args in
-    taken a.x a.dx _ _ p.points_in_bound.ensures c.before.points-in-bound2.ensures c.if1.true
+    taken a.x a.dx _ _ p.points_in_bound.ensures c.before.points_in_bound-2.ensures c.if-points_in_bound.true
 
-returns-2 : tie.Need-returns-2
-returns-2 c =
+returns : tie.Need-returns
+returns c =
     let f = c.before.before in
     let e = f.before in
     let p = e.before.before in
     let a = p.before.args in
     c.verdict.ensures
-    ∙ rw (c.before.points-finite2.ensures, f.points_finite.ensures)
-    (left a.x a.dx _ _ p.points_in_bound.ensures e.before.points-in-bound2.ensures e.if1.false)
+    ∙ rw (c.before.points_finite-2.ensures, f.points_finite.ensures)
+    (left a.x a.dx _ _ p.points_in_bound.ensures e.before.points_in_bound-2.ensures e.if-points_in_bound.false)
 
 pub admit_motion_spec : {M : Type 1} → statement M
 admit_motion_spec =
     tie.close
-    (tie.spec (search rules) (search rules) returns (search rules) (search rules) (search rules) returns-2)
+    (tie.spec (search rules) (search rules) returns-then-points_in_bound (search rules) (search rules) (search rules) returns)

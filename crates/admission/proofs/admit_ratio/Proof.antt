@@ -10,10 +10,10 @@ returns c =
     rw (
       c.verdict.ensures,
       c.before.zero_to_one.ensures,
-      c.before.before.three-in-bound2.ensures,
+      c.before.before.three_in_bound-2.ensures,
       c.before.before.before.three_in_bound.ensures,
       c.before.before.before.before.is_finite.ensures,
-      c.before.before.before.before.before.three-finite2.ensures,
+      c.before.before.before.before.before.three_finite-2.ensures,
       c.before.before.before.before.before.before.three_finite.ensures,
     )
 

@@ -26,21 +26,21 @@ module _ (x : List (List Float)) (split : ℕ) (p s : Bool) (ep : p ≡ bounded_
   unfolding split_refusal
   left e = ranged_beyond (finite_points x) (bounded_points x && is_split split) (rw (← ep, ← es) e)
 
-returns : tie.Need-returns
-returns c =
+returns-then-points_in_bound-is_split : tie.Need-returns-then-points_in_bound-is_split
+returns-then-points_in_bound-is_split c =
     let p = c.before.before in
     let a = p.before.args in
-    taken a.x a.split _ _ p.points_in_bound.ensures c.before.is_split.ensures c.if1.true
+    taken a.x a.split _ _ p.points_in_bound.ensures c.before.is_split.ensures c.if-points_in_bound-is_split.true
 
-returns-2 : tie.Need-returns-2
-returns-2 c =
+returns : tie.Need-returns
+returns c =
     let e = c.before.before in
     let p = e.before.before in
     let a = p.before.args in
     c.verdict.ensures
     ∙ rw c.before.points_finite.ensures
-    (left a.x a.split _ _ p.points_in_bound.ensures e.before.is_split.ensures e.if1.false)
+    (left a.x a.split _ _ p.points_in_bound.ensures e.before.is_split.ensures e.if-points_in_bound-is_split.false)
 
 pub admit_split_spec : {M : Type 1} → statement M
 admit_split_spec =
-    tie.close (tie.spec (search rules) (search rules) returns (search rules) (search rules) returns-2)
+    tie.close (tie.spec (search rules) (search rules) returns-then-points_in_bound-is_split (search rules) (search rules) returns)

@@ -37,28 +37,28 @@ module _ (x dx : List (List Float)) (t : Float) where
     unfolding time_refusal
     left e = ranged_beyond finite ranged (rw (← ep, ← eq, ← es) e)
 
-returns : tie.Need-returns
-returns c =
+returns-then-points_in_bound-zero_to_one : tie.Need-returns-then-points_in_bound-zero_to_one
+returns-then-points_in_bound-zero_to_one c =
     let z = c.before in
     let p = z.before.before in
     let a = p.before.args in
-    taken a.x a.dx a.t _ _ _ p.points_in_bound.ensures z.before.points-in-bound2.ensures
-    z.zero_to_one.ensures c.if1.true
+    taken a.x a.dx a.t _ _ _ p.points_in_bound.ensures z.before.points_in_bound-2.ensures
+    z.zero_to_one.ensures c.if-points_in_bound-zero_to_one.true
 
-returns-2 : tie.Need-returns-2
-returns-2 c =
+returns : tie.Need-returns
+returns c =
     let f = c.before.before in
     let e = f.before.before in
     let z = e.before in
     let p = z.before.before in
     let a = p.before.args in
     c.verdict.ensures
-    ∙ rw (c.before.is_finite.ensures, f.points-finite2.ensures, f.before.points_finite.ensures)
-    (left a.x a.dx a.t _ _ _ p.points_in_bound.ensures z.before.points-in-bound2.ensures
-    z.zero_to_one.ensures e.if1.false)
+    ∙ rw (c.before.is_finite.ensures, f.points_finite-2.ensures, f.before.points_finite.ensures)
+    (left a.x a.dx a.t _ _ _ p.points_in_bound.ensures z.before.points_in_bound-2.ensures
+    z.zero_to_one.ensures e.if-points_in_bound-zero_to_one.false)
 
 pub admit_time_spec : {M : Type 1} → statement M
 admit_time_spec =
     tie.close
-    (tie.spec (search rules) (search rules) (search rules) returns (search rules) (search rules) (search rules)
-    (search rules) returns-2)
+    (tie.spec (search rules) (search rules) (search rules) returns-then-points_in_bound-zero_to_one (search rules) (search rules) (search rules)
+    (search rules) returns)

@@ -18,19 +18,19 @@ ranged_by : (x dx : List (List Float)) (split : ℕ) (l : Limits) (allowed : ℕ
     → (a && b && r && s && n) ≡ v → ranged_call x dx split l allowed ≡ v
 ranged_by x dx split l allowed v a b r s n ea eb er es en e = rw (← ea, ← eb, ← er, ← es, ← en) e
 
-returns : tie.Need-returns
-returns c =
+returns-then-points_in_bound-limits_ranged : tie.Need-returns-then-points_in_bound-limits_ranged
+returns-then-points_in_bound-limits_ranged c =
     let s = c.before.before in
     let l = s.before in
     let p = l.before.before in
     let a = p.before.args in
     walk_none a.x0 a.dx a.split a.limits a.allowance
     (ranged_by a.x0 a.dx a.split a.limits a.allowance _ _ _ _ _ _ p.points_in_bound.ensures
-    l.before.points-in-bound2.ensures l.limits_ranged.ensures s.is_split.ensures
-    c.before.is_allowance.ensures c.if1.true)
+    l.before.points_in_bound-2.ensures l.limits_ranged.ensures s.is_split.ensures
+    c.before.is_allowance.ensures c.if-points_in_bound-limits_ranged.true)
 
-returns-2 : tie.Need-returns-2
-returns-2 c =
+returns : tie.Need-returns
+returns c =
     let f = c.before in
     let g = f.before.before in
     let e = g.before in
@@ -39,14 +39,14 @@ returns-2 c =
     let p = l.before.before in
     let a = p.before.args in
     c.verdict.ensures
-    ∙ rw (f.limits_finite.ensures, f.before.points-finite2.ensures, g.points_finite.ensures)
+    ∙ rw (f.limits_finite.ensures, f.before.points_finite-2.ensures, g.points_finite.ensures)
     (walk_beyond a.x0 a.dx a.split a.limits a.allowance
     (ranged_by a.x0 a.dx a.split a.limits a.allowance _ _ _ _ _ _ p.points_in_bound.ensures
-    l.before.points-in-bound2.ensures l.limits_ranged.ensures s.is_split.ensures
-    e.before.is_allowance.ensures e.if1.false))
+    l.before.points_in_bound-2.ensures l.limits_ranged.ensures s.is_split.ensures
+    e.before.is_allowance.ensures e.if-points_in_bound-limits_ranged.false))
 
 pub admit_walk_spec : {M : Type 1} → statement M
 admit_walk_spec =
     tie.close
-    (tie.spec (search rules) (search rules) (search rules) (search rules) (search rules) returns (search rules)
-    (search rules) (search rules) (search rules) returns-2)
+    (tie.spec (search rules) (search rules) (search rules) (search rules) (search rules) returns-then-points_in_bound-limits_ranged (search rules)
+    (search rules) (search rules) (search rules) returns)

@@ -8,9 +8,9 @@ returns : tie.Need-returns
 unfolding finite_limits
 returns c =
     rw (
-      c.is-finite4.ensures,
-      c.before.is-finite3.ensures,
-      c.before.before.is-finite2.ensures,
+      c.is_finite-4.ensures,
+      c.before.is_finite-3.ensures,
+      c.before.before.is_finite-2.ensures,
       c.before.before.before.is_finite.ensures,
     )
 

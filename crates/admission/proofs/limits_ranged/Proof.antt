@@ -10,7 +10,7 @@ returns c =
     rw (
       c.speed_range.ensures,
       c.before.zero_to_one.ensures,
-      c.before.before.zero-to-bound2.ensures,
+      c.before.before.zero_to_bound-2.ensures,
       c.before.before.before.zero_to_bound.ensures,
     )
 

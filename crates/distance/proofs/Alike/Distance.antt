@@ -63,7 +63,8 @@ nearest_from_alike : {a b : Nearest} {k l : List Nearest} → Near a b → AllNe
     → Near (nearest_from a k) (nearest_from b l)
 unfolding nearest_from
 nearest_from_alike p none = p
-nearest_from_alike p (next q r) = nearest_from_alike (nearer_alike p q) r
+nearest_from_alike {a = a} {b = b} p (next {a = a'} {b = b'} q r) =
+    nearest_from_alike {a = nearer a a'} {b = nearer b b'} (nearer_alike p q) r
 
 -- ---- the candidates of either split
 module _ {x0 y0 x1 y1 x2 y2 x3 y3 : List Float} (h0 : AlikeVec x0 y0) (h1 : AlikeVec x1 y1) (h2 : AlikeVec x2 y2)

@@ -20,7 +20,7 @@ returns c =
     let n = made.before.before.before.args.n in
     let short = few made in
     let width = width_is 9 n made.decimal-k.result made.decimal-k.ensures.1.0 short in (
-      as_text (made.decimal-k.ensures.1.1 ∙ ap (λ (k : ℕ). last_digits 10 k n) width) put.put_bytes.ensures,
+      as_text (made.decimal-k.ensures.1.1.0 ∙ ap (λ (k : ℕ). last_digits 10 k n) width) put.put_bytes.ensures,
       search rules,
     )
 

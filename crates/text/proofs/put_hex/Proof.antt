@@ -19,7 +19,7 @@ returns c =
     let made = put.before.before.before in
     let n = made.before.before.before.args.n in
     let short = eight made in (
-      as_text (made.hex-k.ensures.1.1 ∙ ap (λ (k : ℕ). last_digits 16 k n) short) put.put_bytes.ensures,
+      as_text (made.hex-k.ensures.1.1.0 ∙ ap (λ (k : ℕ). last_digits 16 k n) short) put.put_bytes.ensures,
       search rules,
     )
 

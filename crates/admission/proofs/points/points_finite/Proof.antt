@@ -8,9 +8,9 @@ returns : tie.Need-returns
 unfolding finite_points
 returns c =
     rw (
-      c.three-finite4.ensures,
-      c.before.three-finite3.ensures,
-      c.before.before.three-finite2.ensures,
+      c.three_finite-4.ensures,
+      c.before.three_finite-3.ensures,
+      c.before.before.three_finite-2.ensures,
       c.before.before.before.three_finite.ensures,
     )
 

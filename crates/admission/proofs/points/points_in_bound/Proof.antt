@@ -8,9 +8,9 @@ returns : tie.Need-returns
 unfolding bounded_points
 returns c =
     rw (
-      c.three-in-bound4.ensures,
-      c.before.three-in-bound3.ensures,
-      c.before.before.three-in-bound2.ensures,
+      c.three_in_bound-4.ensures,
+      c.before.three_in_bound-3.ensures,
+      c.before.before.three_in_bound-2.ensures,
       c.before.before.before.three_in_bound.ensures,
     )
 

@@ -4,7 +4,7 @@ use Rattle.admission.proofs.points.three_finite.Statement.{statement}
 use Rattle.admission.proofs.points.three_finite.Tie as tie
 
 returns : tie.Need-returns
-returns c = rw (c.is-finite3.ensures, c.before.is-finite2.ensures, c.before.before.is_finite.ensures)
+returns c = rw (c.is_finite-3.ensures, c.before.is_finite-2.ensures, c.before.before.is_finite.ensures)
 
 pub three_finite_spec : {M : Type 1} → statement M
 three_finite_spec =

@@ -6,11 +6,11 @@ use Rattle.distance.proofs.Found.{edges_found}
 use Rattle.distance.proofs.edge_edge.edge_edge.Statement.{statement}
 use Rattle.distance.proofs.edge_edge.edge_edge.Tie as tie
 
-abbrev from : tie.After-edges-meet → tie.Start
+abbrev from : tie.After-edges_meet → tie.Start
 from c = c.before.before.before.before.before.before.before.before.before.before
 
 -- what the calls gave
-abbrev gave : (c : tie.After-edges-meet) → Given
+abbrev gave : (c : tie.After-edges_meet) → Given
     (edge_edge (from c).args.x0 (from c).args.x1 (from c).args.x2 (from c).args.x3)
 gave c =
     let three = c.before in
@@ -22,44 +22,44 @@ gave c =
     let end1 = end2.before in
     let end0 = end1.before in
     given
-    (edges_found _ _ _ _ end0.point_segment.ensures end1.point-segment2.ensures end2.segment_point.ensures
-    end3.segment-point2.ensures end0.before.products_of.ensures last.interior.ensures
+    (edges_found _ _ _ _ end0.point_segment-c0.ensures end1.point_segment-c1.ensures end2.segment_point-c2.ensures
+    end3.segment_point-c3.ensures end0.before.products_of-p.ensures last.interior-inner.ensures
     c.edges_meet.ensures)
-    (more (more (more one first.smaller.ensures) two.smaller2.ensures) three.smaller3.ensures)
+    (more (more (more one first.smaller-least1.ensures) two.smaller-least2.ensures) three.smaller-least3.ensures)
 
-returns : tie.Need-returns
-returns c = inner_answered (gave c.before.before) c.if1.true
+returns-then-edges_meet-inner : tie.Need-returns-then-edges_meet-inner
+returns-then-edges_meet-inner c = inner_answered (gave c.before.before) c.if-edges_meet-inner.true
 
-returns-2 : tie.Need-returns-2
-returns-2 c =
+returns-then-c3-least2 : tie.Need-returns-then-c3-least2
+returns-then-c3-least2 c =
     let else1 = c.before.before in
-    other_answered (gave else1.before.before) else1.if1.false (taken c.if2.true)
+    other_answered (gave else1.before.before) else1.if-edges_meet-inner.false (taken c.if-c3-least2.true)
 
-returns-3 : tie.Need-returns-3
-returns-3 c =
+returns-then-c2-least1 : tie.Need-returns-then-c2-least1
+returns-then-c2-least1 c =
     let else2 = c.before.before in
     let else1 = else2.before.before in
-    other_answered (gave else1.before.before) else1.if1.false
-    (passed else2.if2.false (taken c.if3.true))
+    other_answered (gave else1.before.before) else1.if-edges_meet-inner.false
+    (passed else2.if-c3-least2.false (taken c.if-c2-least1.true))
 
-returns-4 : tie.Need-returns-4
-returns-4 c =
+returns-then-c1-c0 : tie.Need-returns-then-c1-c0
+returns-then-c1-c0 c =
     let else3 = c.before.before.before in
     let else2 = else3.before.before in
     let else1 = else2.before.before in
-    other_answered (gave else1.before.before) else1.if1.false
-    (passed else2.if2.false (passed else3.if3.false (taken c.if4.true)))
+    other_answered (gave else1.before.before) else1.if-edges_meet-inner.false
+    (passed else2.if-c3-least2.false (passed else3.if-c2-least1.false (taken c.if-c1-c0.true)))
 
-returns-5 : tie.Need-returns-5
-returns-5 c =
+returns : tie.Need-returns
+returns c =
     let else3 = c.before.before.before in
     let else2 = else3.before.before in
     let else1 = else2.before.before in
-    other_answered (gave else1.before.before) else1.if1.false
-    (passed else2.if2.false (passed else3.if3.false (passed c.if4.false start)))
+    other_answered (gave else1.before.before) else1.if-edges_meet-inner.false
+    (passed else2.if-c3-least2.false (passed else3.if-c2-least1.false (passed c.if-c1-c0.false start)))
 
 pub edge_edge_spec : {M : Type 1} → statement M
 edge_edge_spec =
     tie.close
     (tie.spec (λ c κs. tt) (λ c κs. tt) (λ c κs. tt) (λ c κs. tt) (λ c κs. tt) (λ c κs. tt) (λ c κs. tt)
-    (λ c κs. tt) (λ c κs. tt) (λ c κs. tt) returns returns-2 returns-3 returns-4 returns-5)
+    (λ c κs. tt) (λ c κs. tt) (λ c κs. tt) returns-then-edges_meet-inner returns-then-c3-least2 returns-then-c2-least1 returns-then-c1-c0 returns)

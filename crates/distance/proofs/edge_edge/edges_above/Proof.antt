@@ -6,29 +6,29 @@ use Rattle.distance.proofs.Found.{edges_found}
 use Rattle.distance.proofs.edge_edge.edges_above.Statement.{statement}
 use Rattle.distance.proofs.edge_edge.edges_above.Tie as tie
 
-returns : tie.Need-returns
-returns c =
+returns-then-edges_meet-inner : tie.Need-returns-then-edges_meet-inner
+returns-then-edges_meet-inner c =
     let meet = c.before in
     inner_reaches _
-    (edges_found _ _ _ _ refl refl refl refl meet.before.before.products_of.ensures
-    meet.before.interior.ensures meet.edges_meet.ensures)
-    c.if1.true
+    (edges_found _ _ _ _ refl refl refl refl meet.before.before.products_of-p.ensures
+    meet.before.interior-inner.ensures meet.edges_meet.ensures)
+    c.if-edges_meet-inner.true
 
-returns-2 : tie.Need-returns-2
+returns : tie.Need-returns
 unfolding all_above
-returns-2 c =
+returns c =
     let end2 = c.before in
     let end1 = end2.before in
     let end0 = end1.before in
     let meet = end0.before.before in
     inner_clears _
-    (edges_found _ _ _ _ end0.point_segment.ensures end1.point-segment2.ensures
-    end2.segment_point.ensures c.segment-point2.ensures meet.before.before.products_of.ensures
-    meet.before.interior.ensures meet.edges_meet.ensures)
-    end0.before.if1.false
+    (edges_found _ _ _ _ end0.point_segment-d0.ensures end1.point_segment-d1.ensures
+    end2.segment_point-d2.ensures c.segment_point-d3.ensures meet.before.before.products_of-p.ensures
+    meet.before.interior-inner.ensures meet.edges_meet.ensures)
+    end0.before.if-edges_meet-inner.false
 
 pub edges_above_spec : {M : Type 1} → statement M
 edges_above_spec =
     tie.close
-    (tie.spec (λ c κs. tt) (λ c κs. tt) (λ c κs. tt) returns (λ c κs. tt) (λ c κs. tt) (λ c κs. tt) (λ c κs. tt)
-    returns-2)
+    (tie.spec (λ c κs. tt) (λ c κs. tt) (λ c κs. tt) returns-then-edges_meet-inner (λ c κs. tt) (λ c κs. tt) (λ c κs. tt) (λ c κs. tt)
+    returns)

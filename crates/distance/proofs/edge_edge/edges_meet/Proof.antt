@@ -7,7 +7,7 @@ returns : tie.Need-returns
 unfolding edges_meet
 returns c =
     rw (
-      c.zero-to-one2.ensures,
+      c.zero_to_one-2.ensures,
       c.before.ae_minus_bd.ensures,
       c.before.before.zero_to_one.ensures,
       c.before.before.before.be_minus_cd.ensures,

@@ -8,9 +8,9 @@ unfolding edge_interior
 returns c =
     rw (
       c.from_to.ensures,
-      c.before.lerp2.ensures,
+      c.before.lerp-to.ensures,
       c.before.before.ae_minus_bd.ensures,
-      c.before.before.before.lerp.ensures,
+      c.before.before.before.lerp-from.ensures,
       c.before.before.before.before.be_minus_cd.ensures,
     )
 

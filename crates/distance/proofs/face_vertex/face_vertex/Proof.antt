@@ -6,11 +6,11 @@ use Rattle.distance.proofs.Found.{face_found}
 use Rattle.distance.proofs.face_vertex.face_vertex.Statement.{statement}
 use Rattle.distance.proofs.face_vertex.face_vertex.Tie as tie
 
-abbrev from : tie.After-over-face → tie.Start
+abbrev from : tie.After-over_face → tie.Start
 from c = c.before.before.before.before.before.before.before.before
 
 -- what the calls gave
-abbrev gave : (c : tie.After-over-face) → Given
+abbrev gave : (c : tie.After-over_face) → Given
     (face_vertex (from c).args.x0 (from c).args.x1 (from c).args.x2 (from c).args.x3)
 gave c =
     let two = c.before in
@@ -20,35 +20,35 @@ gave c =
     let edge1 = edge2.before in
     let edge0 = edge1.before in
     given
-    (face_found _ _ _ _ edge0.segment_point.ensures edge1.segment-point2.ensures
-    edge2.segment-point3.ensures edge0.before.products_of.ensures last.interior.ensures
+    (face_found _ _ _ _ edge0.segment_point-c0.ensures edge1.segment_point-c1.ensures
+    edge2.segment_point-c2.ensures edge0.before.products_of-p.ensures last.interior-inner.ensures
     c.over_face.ensures)
-    (more (more one first.smaller.ensures) two.smaller2.ensures)
+    (more (more one first.smaller-least1.ensures) two.smaller-least2.ensures)
+
+returns-then-over_face-inner : tie.Need-returns-then-over_face-inner
+returns-then-over_face-inner c = inner_answered (gave c.before.before) c.if-over_face-inner.true
+
+returns-then-c2-least1 : tie.Need-returns-then-c2-least1
+returns-then-c2-least1 c =
+    let else1 = c.before.before in
+    other_answered (gave else1.before.before) else1.if-over_face-inner.false (taken c.if-c2-least1.true)
+
+returns-then-c1-c0 : tie.Need-returns-then-c1-c0
+returns-then-c1-c0 c =
+    let else2 = c.before.before.before in
+    let else1 = else2.before.before in
+    other_answered (gave else1.before.before) else1.if-over_face-inner.false
+    (passed else2.if-c2-least1.false (taken c.if-c1-c0.true))
 
 returns : tie.Need-returns
-returns c = inner_answered (gave c.before.before) c.if1.true
-
-returns-2 : tie.Need-returns-2
-returns-2 c =
-    let else1 = c.before.before in
-    other_answered (gave else1.before.before) else1.if1.false (taken c.if2.true)
-
-returns-3 : tie.Need-returns-3
-returns-3 c =
+returns c =
     let else2 = c.before.before.before in
     let else1 = else2.before.before in
-    other_answered (gave else1.before.before) else1.if1.false
-    (passed else2.if2.false (taken c.if3.true))
-
-returns-4 : tie.Need-returns-4
-returns-4 c =
-    let else2 = c.before.before.before in
-    let else1 = else2.before.before in
-    other_answered (gave else1.before.before) else1.if1.false
-    (passed else2.if2.false (passed c.if3.false start))
+    other_answered (gave else1.before.before) else1.if-over_face-inner.false
+    (passed else2.if-c2-least1.false (passed c.if-c1-c0.false start))
 
 pub face_vertex_spec : {M : Type 1} → statement M
 face_vertex_spec =
     tie.close
     (tie.spec (λ c κs. tt) (λ c κs. tt) (λ c κs. tt) (λ c κs. tt) (λ c κs. tt) (λ c κs. tt) (λ c κs. tt)
-    (λ c κs. tt) returns returns-2 returns-3 returns-4)
+    (λ c κs. tt) returns-then-over_face-inner returns-then-c2-least1 returns-then-c1-c0 returns)

@@ -13,10 +13,10 @@ returns c =
     let g = along-g.before in
     rw (
       c.from_to.ensures,
-      along-h.along2.ensures,
-      h.sub2.ensures,
+      along-h.along-place.ensures,
+      h.sub-2.ensures,
       w.ae_minus_bd.ensures,
-      along-g.along.ensures,
+      along-g.along-along_g.ensures,
       g.sub.ensures,
       g.before.cd_minus_be.ensures,
     )

@@ -7,14 +7,14 @@ returns : tie.Need-returns
 unfolding products_of
 returns c =
     rw (
-      c.dot5.ensures,
-      c.before.dot4.ensures,
-      c.before.before.dot3.ensures,
-      c.before.before.before.dot2.ensures,
-      c.before.before.before.before.dot.ensures,
-      c.before.before.before.before.before.sub3.ensures,
-      c.before.before.before.before.before.before.sub2.ensures,
-      c.before.before.before.before.before.before.before.sub.ensures,
+      c.dot-2.ensures,
+      c.before.dot.ensures,
+      c.before.before.dot-c.ensures,
+      c.before.before.before.dot-b.ensures,
+      c.before.before.before.before.dot-a.ensures,
+      c.before.before.before.before.before.sub-w.ensures,
+      c.before.before.before.before.before.before.sub-v.ensures,
+      c.before.before.before.before.before.before.before.sub-u.ensures,
     )
 
 pub products_of_spec : {M : Type 1} → statement M

@@ -3,22 +3,22 @@ use Rattle.distance.specs.Distance.{ratio_along}
 use Rattle.distance.proofs.segment.ratio.Statement.{statement}
 use Rattle.distance.proofs.segment.ratio.Tie as tie
 
-returns : tie.Need-returns
+returns-then-length : tie.Need-returns-then-length
 unfolding ratio_along
-returns c = rw (← c.before.before.before.dot.ensures, c.if1.true)
+returns-then-length c = rw (← c.before.before.before.dot-length.ensures, c.if-length.true)
 
-returns-2 : tie.Need-returns-2
+returns-else-length : tie.Need-returns-else-length
 unfolding ratio_along
-returns-2 c =
+returns-else-length c =
     let quotient = c.before.before in
     let difference = quotient.before in
     rw (
-      ← difference.before.dot.ensures,
-      c.before.if1.false,
+      ← difference.before.dot-length.ensures,
+      c.before.if-length.false,
       c.clamp.ensures,
-      quotient.dot2.ensures,
+      quotient.dot.ensures,
       difference.sub.ensures,
     )
 
 pub ratio_spec : {M : Type 1} → statement M
-ratio_spec = tie.close (tie.spec (λ c κs. tt) (λ c κs. tt) (λ c κs. tt) (λ c κs. tt) returns returns-2)
+ratio_spec = tie.close (tie.spec (λ c κs. tt) (λ c κs. tt) (λ c κs. tt) (λ c κs. tt) returns-then-length returns-else-length)
