@@ -147,6 +147,8 @@ module _ (x₀ dx : List (List Float)) (split : ℕ) (l : Limits) (g : Ground x�
     every : (left : ℕ) (t : Float) (ps : List Float) → far t ≡ true → (a : Answer) → Says left ps a
         → Says (suc left) (t ∷ ps) a
     unfolding Every
+    every left t ps f (Touching _) h = elim h [ ]
+    every left t ps f (Refused _) h = elim h [ ]
     every left t ps f (Contact u) h = h
     every left t ps f (Clear u) h = (h.0, (f, h.1))
     every left t ps f (Budget u) h = (h.0, h.1, ap suc h.2)

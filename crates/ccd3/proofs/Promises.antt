@@ -173,6 +173,8 @@ module _ (x₀ dx : List (List Float)) (split : ℕ) (l : Limits) (allowed : ℕ
           → Promised x₀ dx split l allowed (numbers_of a).0 (numbers_of a).1 (numbers_of a).2 (length w.probed)
           w.ending.halvings
       unfolding numbers_of
+      by_answer (Touching _) h = elim h [ ]
+      by_answer (Refused _) h = elim h [ ]
       by_answer (Contact u) h =
           unrefused w is kept.probes kept.halvings kept.rising 1 u (lit≤ tt) h.0
           (λ n. absurd (omega arith)) (λ n. h.1) (λ n. absurd (omega arith)) (λ n. absurd (omega arith)) (λ n. t)

@@ -5,7 +5,7 @@ use mathlib.Core.Path.{◌≡◌, refl, sym, ap, ◌∙◌, subst}
 use mathlib.Core.Bool.{Bool, ◌&&◌}
 use mathlib.Core.List.{List}
 use lib.Dec.{T}
-use lib.Ieee.{Float, fin, neg}
+use lib.Ieee.{Float, fin, neg, inf, nan}
 use Rattle.number.specs.Number.{is_finite, in_bound, refusal}
 use Rattle.number.proofs.Units.Compared.{same_test}
 use Rattle.number.proofs.Within.{neg_within}
@@ -48,6 +48,8 @@ module _ (order : ℕ → ℕ) (o : Onto order) (x : List (List Float)) where
 -- ---- all signs changed
 finite_neg : (c : Float) → T (is_finite c) → T (is_finite (neg c))
 unfolding is_finite neg
+finite_neg nan t = elim t [ ]
+finite_neg (inf _) t = elim t [ ]
 finite_neg (fin s m e) t = tt
 
 bound_neg : (c : Float) → T (in_bound c) → T (in_bound (neg c))

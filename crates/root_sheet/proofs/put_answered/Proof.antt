@@ -12,7 +12,7 @@ returns c =
     let worked = answer.before.before.before.before.before.before in
     let first = worked.before.before.before.before.before in
     let digits = rw worked.before.float_of.ensures at worked.put_worked.ensures.0 in
-    let last = rw answer.before.bits_of.ensures at answer.put-named2.ensures.0 in
+    let last = rw answer.before.bits_of.ensures at answer.put_named.ensures.0 in
     (and_then (and_then first.put_named.ensures.0 digits) last, search rules)
 
 pub put_answered_spec : {M : Type 1} → statement M

@@ -18,7 +18,7 @@ returns c =
     rw (second.before.sheet_after.ensures.0, second.sheet-after2.ensures.0) at row.put_row.ensures.0 in
     let last = rw second.sheet-after2.ensures.0 at digits.put_hex.ensures.0 in (
       and_then (and_then (and_then (and_then head.put_bytes.ensures line) word.put-bytes2.ensures) last)
-          end.put-bytes3.ensures,
+          end.put_bytes.ensures,
       search rules,
     )
 

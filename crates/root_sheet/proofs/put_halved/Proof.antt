@@ -16,7 +16,7 @@ returns c =
       and_then (and_then (and_then (and_then word.put_bytes.ensures exponent.put_difference.ensures.0)
           comma.put-bytes2.ensures)
           number.put_hex.ensures.0)
-          end.put-bytes3.ensures,
+          end.put_bytes.ensures,
       search rules,
     )
 

@@ -5,20 +5,20 @@ use Rattle.root_sheet.specs.RootSheet.{reason}
 use Rattle.root_sheet.proofs.put_reason.Statement.{statement}
 use Rattle.root_sheet.proofs.put_reason.Tie as tie
 
-returns : tie.Need-returns
+returns-then-n-eq1 : tie.Need-returns-then-n-eq1
 unfolding reason
-returns c =
+returns-then-n-eq1 c =
     let put = c.before.before in
     rw (eq-eqb _ _ put.before.before.before.if1.true) (put.put_bytes.ensures, search rules)
 
-returns-2 : tie.Need-returns-2
+returns-else-n-eq1 : tie.Need-returns-else-n-eq1
 unfolding reason
-returns-2 c =
+returns-else-n-eq1 c =
     let put = c.before.before in
-    rw (ne_eqb _ _ put.before.before.before.if1.false) (put.put-bytes2.ensures, search rules)
+    rw (ne_eqb _ _ put.before.before.before.if1.false) (put.put_bytes-else-n-eq1.ensures, search rules)
 
 pub put_reason_spec : {M : Type 1} → statement M
 put_reason_spec =
     tie.close
-    (tie.spec (search rules) (search rules) (search rules) (search rules) (search rules) returns (search rules)
-    returns-2)
+    (tie.spec (search rules) (search rules) (search rules) (search rules) (search rules) returns-then-n-eq1 (search rules)
+    returns-else-n-eq1)

@@ -19,7 +19,7 @@ returns c =
           number.put_decimal.ensures.0)
           colon.put-bytes2.ensures)
           reason.put_reason.ensures.0)
-          end.put-bytes3.ensures,
+          end.put_bytes.ensures,
       search rules,
     )
 

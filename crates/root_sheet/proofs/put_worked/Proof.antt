@@ -6,20 +6,20 @@ use Rattle.root_sheet.specs.RootSheet.{worked}
 use Rattle.root_sheet.proofs.put_worked.Statement.{statement}
 use Rattle.root_sheet.proofs.put_worked.Tie as tie
 
+returns-then-a-eq0 : tie.Need-returns-then-a-eq0
+unfolding worked
+returns-then-a-eq0 c =
+    rw (← c.before.before.argument_of-a.ensures, eq-eqb _ _ c.if-a-eq0.true) (nothing _ _, search rules)
+
 returns : tie.Need-returns
 unfolding worked
 returns c =
-    rw (← c.before.before.argument_of.ensures, eq-eqb _ _ c.if1.true) (nothing _ _, search rules)
-
-returns-2 : tie.Need-returns-2
-unfolding worked
-returns-2 c =
     let below = c.before.before in
     let digits = below.before.before.before.before in
     let above = digits.before.before.before.before in
     let some = above.before.before in
-    rw (← some.before.before.argument_of.ensures, ne_eqb _ _ some.if1.false) (
-      and_then (and_then above.put_opening.ensures.0 digits.put_rows.ensures.0)
+    rw (← some.before.before.argument_of-a.ensures, ne_eqb _ _ some.if-a-eq0.false) (
+      and_then (and_then above.put_opening-b.ensures.0 digits.put_rows-c.ensures.0)
           below.put_closing.ensures.0,
       search rules,
     )
@@ -27,5 +27,5 @@ returns-2 c =
 pub put_worked_spec : {M : Type 1} → statement M
 put_worked_spec =
     tie.close
-    (tie.spec (search rules) returns (search rules) (search rules) (search rules) (search rules) (search rules)
-    (search rules) returns-2)
+    (tie.spec (search rules) returns-then-a-eq0 (search rules) (search rules) (search rules) (search rules) (search rules)
+    (search rules) returns)

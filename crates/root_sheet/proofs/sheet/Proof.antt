@@ -18,25 +18,25 @@ unfolding sheet
 tells bits x a r e f g =
     ap (told bits) (sym g ∙ f ∙ ap (λ (y : Float). answered (root_refusal y) (root_of y)) e)
 
-returns : tie.Need-returns
-returns c =
+returns-in-Value : tie.Need-returns-in-Value
+returns-in-Value c =
     let put = c.before.before in
-    let square = put.before.before.before.before.before in
+    let square = put.before.before.before in
     let text =
     as_text
-    (tells _ _ _ _ square.before.float_of.ensures square.square_root.ensures.0
-    put.before.before.before.answer.given.1)
+    (tells _ _ _ _ square.before.float_of.ensures square.square_root-answer.ensures.0
+    put.before.before.in-Value.is)
     put.put_answered.ensures.0 in
     (text, (put.put_answered.ensures.1, whole_text text))
 
-returns-2 : tie.Need-returns-2
-returns-2 c =
+returns-in-Refused : tie.Need-returns-in-Refused
+returns-in-Refused c =
     let put = c.before.before in
-    let square = put.before.before.before.before.before in
+    let square = put.before.before.before in
     let text =
     as_text
-    (tells _ _ _ _ square.before.float_of.ensures square.square_root.ensures.0
-    put.before.before.before.answer2.given.1)
+    (tells _ _ _ _ square.before.float_of.ensures square.square_root-answer.ensures.0
+    put.before.before.in-Refused.is)
     put.Put-refused.ensures.0 in
     (text, (put.Put-refused.ensures.1, whole_text text))
 
@@ -44,4 +44,4 @@ pub sheet_spec : {M : Type 1} → statement M
 sheet_spec =
     tie.close
     (tie.spec (search rules) (search rules) (search rules) (search rules) (search rules) (search rules)
-    (search rules) returns (search rules) returns-2)
+    (search rules) returns-in-Value (search rules) returns-in-Refused)

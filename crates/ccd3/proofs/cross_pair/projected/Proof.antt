@@ -9,10 +9,10 @@ unfolding projected
 returns c =
     rw (
       c.dot.ensures,
-      c.before.before.before.before.dot-of-sizes2.ensures,
+      c.before.before.before.before.dot_of_sizes-2.ensures,
       c.before.before.before.before.before.dot_of_sizes.ensures,
-      c.before.before.before.before.before.before.sub2.ensures,
-      c.before.before.before.before.before.before.before.sub.ensures,
+      c.before.before.before.before.before.before.sub-rel.ensures,
+      c.before.before.before.before.before.before.before.sub-gap.ensures,
     )
 
 pub projected_spec : {M : Type 1} → statement M

@@ -7,23 +7,23 @@ use Rattle.ccd3.specs.Inner.{time_left}
 use Rattle.ccd3.proofs.cross_pair.time_left.Statement.{statement}
 use Rattle.ccd3.proofs.cross_pair.time_left.Tie as tie
 
-speed : (c : tie.After-dot)
-    → c.dot.result
+speed : (c : tie.After-dot-speed)
+    → c.dot-speed.result
     ≡ dot c.before.before.before.args.a.w
     (minus c.before.before.before.args.first c.before.before.before.args.second)
-speed c = c.dot.ensures ∙ ap (dot c.before.before.before.args.a.w) c.before.sub.ensures
+speed c = c.dot-speed.ensures ∙ ap (dot c.before.before.before.args.a.w) c.before.sub.ensures
 
-returns : tie.Need-returns
+returns-then-speed : tie.Need-returns-then-speed
 unfolding time_to_park time_left
-returns c =
+returns-then-speed c =
     let test = c.before.before in
-    rw (c.larger.ensures, ← speed test.before, test.if1.true)
+    rw (c.larger.ensures, ← speed test.before, test.if-speed.true)
 
-returns-2 : tie.Need-returns-2
+returns-else-speed : tie.Need-returns-else-speed
 unfolding time_to_park time_left
-returns-2 c = rw (← speed c.before, c.if1.false)
+returns-else-speed c = rw (← speed c.before, c.if-speed.false)
 
 pub time_left_spec : {M : Type 1} → statement M
 time_left_spec =
     tie.close
-    (tie.spec (search rules) (search rules) (search rules) returns returns-2)
+    (tie.spec (search rules) (search rules) (search rules) returns-then-speed returns-else-speed)

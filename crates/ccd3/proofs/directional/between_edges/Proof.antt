@@ -20,15 +20,15 @@ returns c =
     let r02 = r03.before in
     c.over_sides.ensures
     ∙ tables_give _ _ _ _ _ (cross_pairs 2) (
-      r02.projected.ensures,
-      t02.time_left.ensures,
+      r02.projected-r02.ensures,
+      t02.time_left-t02.ensures,
       (
-        r03.projected2.ensures,
-        t03.time-left2.ensures,
+        r03.projected-r03.ensures,
+        t03.time_left-t03.ensures,
         (
-          r12.projected3.ensures,
-          t12.time-left3.ensures,
-          (r13.projected4.ensures, t13.time-left4.ensures, tt),
+          r12.projected-r12.ensures,
+          t12.time_left-t12.ensures,
+          (r13.projected-r13.ensures, t13.time_left-t13.ensures, tt),
         ),
       ),
     )

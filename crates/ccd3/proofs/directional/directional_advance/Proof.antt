@@ -6,14 +6,14 @@ use Rattle.ccd3.specs.SafeTime.{directional}
 use Rattle.ccd3.proofs.directional.directional_advance.Statement.{statement}
 use Rattle.ccd3.proofs.directional.directional_advance.Tie as tie
 
-returns : tie.Need-returns
+returns-then-split-eq2 : tie.Need-returns-then-split-eq2
 unfolding directional
-returns c = c.between_edges.ensures ∙ rw (eq-eqb _ 2 c.before.if1.true)
+returns-then-split-eq2 c = c.between_edges.ensures ∙ rw (eq-eqb _ 2 c.before.if-split-eq2.true)
 
-returns-2 : tie.Need-returns-2
+returns-else-split-eq2 : tie.Need-returns-else-split-eq2
 unfolding directional
-returns-2 c = c.face_to_vertex.ensures ∙ rw (ne_eqb _ 2 c.before.if1.false)
+returns-else-split-eq2 c = c.face_to_vertex.ensures ∙ rw (ne_eqb _ 2 c.before.if-split-eq2.false)
 
 pub directional_advance_spec : {M : Type 1} → statement M
 directional_advance_spec =
-    tie.close (tie.spec (search rules) (search rules) returns returns-2)
+    tie.close (tie.spec (search rules) (search rules) returns-then-split-eq2 returns-else-split-eq2)

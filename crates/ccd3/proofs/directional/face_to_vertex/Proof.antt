@@ -18,12 +18,12 @@ returns c =
     let r03 = r13.before in
     c.over_sides.ensures
     ∙ tables_give _ _ _ _ _ (cross_pairs 3) (
-      r03.projected.ensures,
-      t03.time_left.ensures,
+      r03.projected-r03.ensures,
+      t03.time_left-t03.ensures,
       (
-        r13.projected2.ensures,
-        t13.time-left2.ensures,
-        (r23.projected3.ensures, t23.time-left3.ensures, tt),
+        r13.projected-r13.ensures,
+        t13.time_left-t13.ensures,
+        (r23.projected-r23.ensures, t23.time_left-t23.ensures, tt),
       ),
     )
 

@@ -20,12 +20,12 @@ abbrev Left : ℕ → Float → List (List Float) → List (List Float) → List
 Left split dip reach time ps least =
     least_in reach time dip ps least ≡ least_in reach time dip (cross_pairs split) largest32
 
-abbrev invariant-loop : tie.invariant-loop
-invariant-loop split dip reach time step₀ i lefts times j₀ step j =
+abbrev invariant-loop-j : tie.invariant-loop-j
+invariant-loop-j split dip reach time step₀ i lefts times j₀ step j =
     (i < split) × (split ≤ j) × Left split dip reach time (rest split i j) step
 
-abbrev decreases-loop : tie.decreases-loop
-decreases-loop split dip reach time step₀ i lefts times j₀ step j = 4 - j
+abbrev decreases-loop-j : tie.decreases-loop-j
+decreases-loop-j split dip reach time step₀ i lefts times j₀ step j = 4 - j
 
 abbrev invariant-sides : tie.invariant-sides
 invariant-sides split dip reach time step₀ i₀ step i = Left split dip reach time (rows split i) step
@@ -34,28 +34,28 @@ abbrev decreases-sides : tie.decreases-sides
 decreases-sides split dip reach time step₀ i₀ step i = split - i
 
 abbrev Start : Type 0
-Start = tie.Start invariant-loop decreases-loop invariant-sides decreases-sides
+Start = tie.Start invariant-loop-j decreases-loop-j invariant-sides decreases-sides
 
 -- the same of other pairs that are equal
 turned : (c : Start) (ps qs : List Cross) (least : Float) → ps ≡ qs
-    → Left c.args.split c.args.dip c.args.t1 c.args.t2 ps least
-    → Left c.args.split c.args.dip c.args.t1 c.args.t2 qs least
+    → Left c.args.split c.args.dip c.args.left c.args.time ps least
+    → Left c.args.split c.args.dip c.args.left c.args.time qs least
 turned c ps qs least e h =
-    ap (λ (rs : List Cross). least_in c.args.t1 c.args.t2 c.args.dip rs least) (sym e) ∙ h
+    ap (λ (rs : List Cross). least_in c.args.left c.args.time c.args.dip rs least) (sym e) ∙ h
 
-sides-holds : tie.Need-sides-init invariant-loop decreases-loop invariant-sides decreases-sides
+sides-init : tie.Need-sides-init invariant-loop-j decreases-loop-j invariant-sides decreases-sides
 unfolding cross_pairs
-sides-holds c = rw sub-zero
+sides-init c = rw sub-zero
 
-loop-holds : tie.Need-loop-init invariant-loop decreases-loop invariant-sides decreases-sides
-loop-holds c =
+loop-j-init : tie.Need-loop-j-init invariant-loop-j decreases-loop-j invariant-sides decreases-sides
+loop-j-init c =
     let start = c.before.before.before.before in
     let s = c.before.before.before.sides in
     let e = rows_next start.args.split s.i c.before.before.sides-test.true in
     (omega arith, omega arith, turned start _ _ s.step e s.invariant)
 
 -- the pair that a turn of the inner loop is at comes first
-module _ (c : tie.In-loop invariant-loop decreases-loop invariant-sides decreases-sides) where
+module _ (c : tie.In-loop-j invariant-loop-j decreases-loop-j invariant-sides decreases-sides) where
   abbrev start : Start
   start = c.before.before.before.before.before.before
 
@@ -63,53 +63,53 @@ module _ (c : tie.In-loop invariant-loop decreases-loop invariant-sides decrease
   i = c.before.before.before.before.before.sides.i
 
   abbrev j : ℕ
-  j = c.before.loop.j
+  j = c.before.loop-j.j
 
   abbrev later : List Cross
   later = rest start.args.split i (j + 1)
 
-  at_pair : Left start.args.split start.args.dip start.args.t1 start.args.t2 (cross i j ∷ later)
-      c.before.loop.step
+  at_pair : Left start.args.split start.args.dip start.args.left start.args.time (cross i j ∷ later)
+      c.before.loop-j.step
   at_pair =
-      turned start _ _ c.before.loop.step (row_next start.args.split i j c.loop-test.true)
-      c.before.loop.invariant.2
+      turned start _ _ c.before.loop-j.step (row_next start.args.split i j c.loop-j-test.true)
+      c.before.loop-j.invariant.2
 
-loop-again : tie.Need-loop-preserved invariant-loop decreases-loop invariant-sides decreases-sides
-loop-again c =
+loop-j-preserved : tie.Need-loop-j-preserved invariant-loop-j decreases-loop-j invariant-sides decreases-sides
+loop-j-preserved c =
     let t = c.before.before in
     let a = (start t).args in (
       omega arith,
       omega arith,
-      sym (pair_passes a.t1 a.t2 a.dip (cross (i t) (j t)) (later t) t.before.loop.step
-          c.smaller.result c.smaller.ensures c.before.if1.false)
+      sym (pair_passes a.left a.time a.dip (cross (i t) (j t)) (later t) t.before.loop-j.step
+          c.smaller-step.result c.smaller-step.ensures c.before.if-lefts-j.false)
           ∙ at_pair t,
     )
 
-sides-again : tie.Need-sides-preserved invariant-loop decreases-loop invariant-sides decreases-sides
-sides-again c =
+sides-preserved : tie.Need-sides-preserved invariant-loop-j decreases-loop-j invariant-sides decreases-sides
+sides-preserved c =
     let l = c.before in
     let start = l.before.before.before.before.before in
     let i = l.before.before.before.before.sides.i in
-    let e = row_done start.args.split i l.loop.j c.loop-test.false in
-    turned start _ _ l.loop.step e l.loop.invariant.2
+    let e = row_done start.args.split i l.loop-j.j c.loop-j-test.false in
+    turned start _ _ l.loop-j.step e l.loop-j.invariant.2
 
-returns : tie.Need-returns invariant-loop decreases-loop invariant-sides decreases-sides
-returns c =
+returns-after-sides : tie.Need-returns-after-sides invariant-loop-j decreases-loop-j invariant-sides decreases-sides
+returns-after-sides c =
     let start = c.before.before in
     let s = c.before.sides in
-    sym (none_left start.args.t1 start.args.t2 start.args.dip s.step)
+    sym (none_left start.args.left start.args.time start.args.dip s.step)
     ∙ turned start _ _ s.step (rows_done start.args.split s.i c.sides-test.false) s.invariant
 
-returns-2 : tie.Need-returns-2 invariant-loop decreases-loop invariant-sides decreases-sides
-returns-2 c =
+returns-then-lefts-j : tie.Need-returns-then-lefts-j invariant-loop-j decreases-loop-j invariant-sides decreases-sides
+returns-then-lefts-j c =
     let t = c.before in
     let a = (start t).args in
-    sym (pair_stops a.t1 a.t2 a.dip (cross (i t) (j t)) (later t) t.before.loop.step c.if1.true)
+    sym (pair_stops a.left a.time a.dip (cross (i t) (j t)) (later t) t.before.loop-j.step c.if-lefts-j.true)
     ∙ at_pair t
 
 pub over_sides_spec : {M : Type 1} → statement M
 over_sides_spec =
     tie.close
-    (tie.spec invariant-loop decreases-loop invariant-sides decreases-sides sides-holds (search rules) (search rules) (search rules)
-    (search rules) loop-holds (search rules) (search rules) (search rules) (search rules) (search rules) (search rules)
-    (search rules) loop-again (search rules) (search rules) sides-again returns returns-2)
+    (tie.spec invariant-loop-j decreases-loop-j invariant-sides decreases-sides sides-init (search rules) (search rules) (search rules)
+    (search rules) loop-j-init (search rules) (search rules) (search rules) (search rules) (search rules) (search rules)
+    (search rules) loop-j-preserved (search rules) (search rules) sides-preserved returns-after-sides returns-then-lefts-j)

@@ -20,33 +20,33 @@ module _ (c : tie.After-touches) where
       → touches a.args.x0 a.args.dx a.args.split a.args.l ≡ b
   unfolding first_squared
   as_touches b e =
-      ap (λ (n : Nearest). le n.squared (squared_offset a.args.l)) (sym c.before.nearest.ensures)
+      ap (λ (n : Nearest). le n.squared (squared_offset a.args.l)) (sym c.before.nearest-first.ensures)
       ∙ sym c.touches.ensures ∙ e
 
-returns : tie.Need-returns
-returns c =
+returns-then-touches : tie.Need-returns-then-touches
+returns-then-touches c =
     let t = c.before.before in
     let a = t.before.before.args in
     c.still.ensures
     ∙ ap (counted_from 0)
     (sym (safe_touches a.x0 a.dx a.split a.l a.allowance t.before.before.requires
-    (as_touches t true c.before.if1.true)))
+    (as_touches t true c.before.if-touches.true)))
 
-returns-2 : tie.Need-returns-2
+returns : tie.Need-returns
 unfolding first_squared
-returns-2 c =
+returns c =
     let t = c.before.before.before in
     let n = t.before in
     let a = n.before.args in
     c.walk.ensures
     ∙ ap (λ (t : Float). counted_from 0 (walk a.x0 a.dx a.split t a.l a.allowance
-    (record { time = zero32; points = a.x0; near = n.nearest.result }))) c.before.threshold.ensures
+    (record { time = zero32; points = a.x0; near = n.nearest-first.result }))) c.before.threshold.ensures
     ∙ ap (λ (near : Nearest). counted_from 0 (walk a.x0 a.dx a.split (threshold_from a.l near.squared)
-    a.l a.allowance (record { time = zero32; points = a.x0; near = near }))) n.nearest.ensures
+    a.l a.allowance (record { time = zero32; points = a.x0; near = near }))) n.nearest-first.ensures
     ∙ ap (counted_from 0)
     (sym (safe_walks a.x0 a.dx a.split a.l a.allowance n.before.requires
-    (as_touches t false c.before.before.if1.false)))
+    (as_touches t false c.before.before.if-touches.false)))
 
 pub admitted_spec : {M : Type 1} → statement M
 admitted_spec =
-    tie.close (tie.spec (search rules) (search rules) (search rules) returns (search rules) (search rules) returns-2)
+    tie.close (tie.spec (search rules) (search rules) (search rules) returns-then-touches (search rules) (search rules) returns)

@@ -27,9 +27,9 @@ use Rattle.ccd3.proofs.safe_time.maximum_safe_time_allowing.Tie as tie
 -- each number that is handed over is an f32
 fitting : (c : tie.Start) → Fitting c.args.x0 c.args.limits
 fitting c =
-    let l = owed the_type the_laws c.args.limits _ c.well-formed.1.1.1.0 in
+    let l = owed the_type the_laws c.args.limits _ c.well_formed.1.1.1.0 in
     record {
-      points = points_fit c.args.x0 _ c.well-formed.0;
+      points = points_fit c.args.x0 _ c.well_formed.0;
       offset = subst T (sym l.0.1) tt;
       clearance = subst T (sym l.1.0.1) tt;
       max_t = subst T (sym l.1.1.0.1) tt;
@@ -66,7 +66,7 @@ unfolding safe_time_of
 returns c =
     let a = c.before.before.args in
     clauses a.x0 a.dx a.split a.limits a.allowance (fitting c.before.before) _
-    (ap told c.before.safe_walk.ensures
+    (ap told c.before.safe_walk-c.ensures
     ∙ told_all (safe_walk a.x0 a.dx a.split a.limits a.allowance))
 
 pub maximum_safe_time_allowing_spec : {M : Type 1} → statement M

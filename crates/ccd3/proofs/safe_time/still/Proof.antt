@@ -6,7 +6,7 @@ use Rattle.ccd3.proofs.safe_time.still.Statement.{statement}
 use Rattle.ccd3.proofs.safe_time.still.Tie as tie
 
 returns : tie.Need-returns
-returns c = ap (λ (e : Ending). record { ending = e; probes = 0 }) c.unbracketed.ensures
+returns c = ap (λ (e : Ending). record { ending = e; probes = 0 }) c.unbracketed-ending.ensures
 
 pub still_spec : {M : Type 1} → statement M
 still_spec = tie.close (tie.spec (search rules) returns)

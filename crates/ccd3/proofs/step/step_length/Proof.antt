@@ -4,21 +4,21 @@ use Rattle.ccd3.specs.SafeTime.{step_from}
 use Rattle.ccd3.proofs.step.step_length.Statement.{statement}
 use Rattle.ccd3.proofs.step.step_length.Tie as tie
 
-returns : tie.Need-returns
+returns-then-time-plain : tie.Need-returns-then-time-plain
 unfolding step_from
-returns c =
+returns-then-time-plain c =
     rw (
       c.larger.ensures,
       c.before.directional_advance.ensures,
-      ← c.before.before.before.before.before.before.root.ensures,
-      c.before.before.before.if1.true,
+      ← c.before.before.before.before.before.before.root-distance.ensures,
+      c.before.before.before.if-time-plain.true,
     )
 
-returns-2 : tie.Need-returns-2
+returns-else-time-plain : tie.Need-returns-else-time-plain
 unfolding step_from
-returns-2 c = rw (← c.before.before.before.root.ensures, c.if1.false)
+returns-else-time-plain c = rw (← c.before.before.before.root-distance.ensures, c.if-time-plain.false)
 
 pub step_length_spec : {M : Type 1} → statement M
 step_length_spec =
     tie.close
-    (tie.spec (search rules) (search rules) (search rules) returns returns-2)
+    (tie.spec (search rules) (search rules) (search rules) returns-then-time-plain returns-else-time-plain)

@@ -6,7 +6,7 @@ use Rattle.ccd3.proofs.walk.met.Tie as tie
 
 returns : tie.Need-returns
 returns c =
-    let e = c.close_in.ensures in
+    let e = c.close_in-closed.ensures in
     let a = c.before.args in
     λ i. record {
       answer = Contact (e.0 i);

@@ -7,7 +7,7 @@ use Rattle.ccd3.proofs.walk.spent.Tie as tie
 
 returns : tie.Need-returns
 returns c =
-    ap (λ (e : Ending). record { ending = e; probes = c.before.args.allowance }) c.unbracketed.ensures
+    ap (λ (e : Ending). record { ending = e; probes = c.before.args.allowance }) c.unbracketed-budget.ensures
 
 pub spent_spec : {M : Type 1} → statement M
 spent_spec = tie.close (tie.spec (search rules) returns)

@@ -21,15 +21,15 @@ other_bits x y f g h =
 
 -- what owning each `f32` tells: the format holds it
 held : (c : tie.Start) → T (fits binary32 c.args.time) × T (fits binary32 c.args.next)
-held c = (subst T (sym c.well-formed.0.1) tt, subst T (sym c.well-formed.1.0.1) tt)
+held c = (subst T (sym c.well_formed.0.1) tt, subst T (sym c.well_formed.1.0.1) tt)
 
-returns : tie.Need-returns
-returns c =
+returns-then-time-next : tie.Need-returns-then-time-next
+returns-then-time-next c =
     let h = held c.before in
-    sym (other_bits c.before.args.time c.before.args.next h.0 h.1 (subst T (sym c.if1.true) tt))
+    sym (other_bits c.before.args.time c.before.args.next h.0 h.1 (subst T (sym c.if-time-next.true) tt))
 
-returns-2 : tie.Need-returns-2
-returns-2 c = rw (c.bits-of2.ensures, c.before.bits_of.ensures)
+returns-else-time-next : tie.Need-returns-else-time-next
+returns-else-time-next c = rw (c.bits_of-else-time-next.ensures, c.before.bits_of.ensures)
 
 pub stays_spec : {M : Type 1} → statement M
-stays_spec = tie.close (tie.spec (search rules) (search rules) returns returns-2)
+stays_spec = tie.close (tie.spec (search rules) (search rules) returns-then-time-next returns-else-time-next)

@@ -27,55 +27,55 @@ turned : (x : List (List Float)) (split : ℕ) (ps qs : List Cross) (most : Floa
     → Left x split qs most
 turned x split ps qs most e h = ap (foldl (turn x) most) (sym e) ∙ h
 
-abbrev invariant-loop2 : tie.invariant-loop2
-invariant-loop2 split x largest₀ i j₀ largest j = (i < split) × (split ≤ j) × Left x split (rest split i j) largest
+abbrev invariant-loop-j : tie.invariant-loop-j
+invariant-loop-j split x largest₀ i j₀ largest j = (i < split) × (split ≤ j) × Left x split (rest split i j) largest
 
-abbrev decreases-loop2 : tie.decreases-loop2
-decreases-loop2 split x largest₀ i j₀ largest j = 4 - j
+abbrev decreases-loop-j : tie.decreases-loop-j
+decreases-loop-j split x largest₀ i j₀ largest j = 4 - j
 
-abbrev invariant-loop : tie.invariant-loop
-invariant-loop split x largest₀ i₀ largest i = (i ≤ split) × Left x split (rows split i) largest
+abbrev invariant-loop-i : tie.invariant-loop-i
+invariant-loop-i split x largest₀ i₀ largest i = (i ≤ split) × Left x split (rows split i) largest
 
-abbrev decreases-loop : tie.decreases-loop
-decreases-loop split x largest₀ i₀ largest i = split - i
+abbrev decreases-loop-i : tie.decreases-loop-i
+decreases-loop-i split x largest₀ i₀ largest i = split - i
 
-loop-holds : tie.Need-loop-init invariant-loop2 decreases-loop2 invariant-loop decreases-loop
+loop-i-init : tie.Need-loop-i-init invariant-loop-j decreases-loop-j invariant-loop-i decreases-loop-i
 unfolding largest_square cross_pairs
-loop-holds c = (search rules, rw sub-zero)
+loop-i-init c = (search rules, rw sub-zero)
 
-loop2-holds : tie.Need-loop2-init invariant-loop2 decreases-loop2 invariant-loop decreases-loop
-loop2-holds c =
-    let l = c.before.loop in
+loop-j-init : tie.Need-loop-j-init invariant-loop-j decreases-loop-j invariant-loop-i decreases-loop-i
+loop-j-init c =
+    let l = c.before.loop-i in
     (omega arith, omega arith, turned _ _ _ _ l.largest (rows_next _ l.i (omega arith)) l.invariant.1)
 
-loop2-again : tie.Need-loop2-preserved invariant-loop2 decreases-loop2 invariant-loop decreases-loop
+loop-j-preserved : tie.Need-loop-j-preserved invariant-loop-j decreases-loop-j invariant-loop-i decreases-loop-i
 unfolding gap_square
-loop2-again c =
+loop-j-preserved c =
     let l = c.before.before.before.before.before.before in
     let a = l.before.before.before.args in
-    let i = l.before.before.loop.i in
-    let j = l.loop2.j in
-    let h : c.larger.result ≡ turn a.t1 l.loop2.largest (cross i j) = cc in (
+    let i = l.before.before.loop-i.i in
+    let j = l.loop-j.j in
+    let h : c.larger-largest.result ≡ turn a.x l.loop-j.largest (cross i j) = cc in (
       omega arith,
       omega arith,
-      ap (λ (most : Float). foldl (turn a.t1) most (rest a.split i (j + 1))) h
-          ∙ turned _ _ _ _ l.loop2.largest (row_next a.split i j (omega arith)) l.loop2.invariant.2,
+      ap (λ (most : Float). foldl (turn a.x) most (rest a.split i (j + 1))) h
+          ∙ turned _ _ _ _ l.loop-j.largest (row_next a.split i j (omega arith)) l.loop-j.invariant.2,
     )
 
-loop-again : tie.Need-loop-preserved invariant-loop2 decreases-loop2 invariant-loop decreases-loop
-loop-again c =
-    let l = c.before.loop2 in
-    let i = c.before.before.before.loop.i in
+loop-i-preserved : tie.Need-loop-i-preserved invariant-loop-j decreases-loop-j invariant-loop-i decreases-loop-i
+loop-i-preserved c =
+    let l = c.before.loop-j in
+    let i = c.before.before.before.loop-i.i in
     (omega arith, turned _ _ _ _ l.largest (row_done _ i l.j (omega arith)) l.invariant.2)
 
-returns : tie.Need-returns invariant-loop2 decreases-loop2 invariant-loop decreases-loop
+returns : tie.Need-returns invariant-loop-j decreases-loop-j invariant-loop-i decreases-loop-i
 returns c =
-    let l = c.before.loop in
+    let l = c.before.loop-i in
     turned _ _ _ _ l.largest (rows_done _ l.i (omega arith)) l.invariant.1
 
 pub largest_square_spec : {M : Type 1} → statement M
 largest_square_spec =
     tie.close
-    (tie.spec invariant-loop2 decreases-loop2 invariant-loop decreases-loop loop-holds loop2-holds (λ c. omega arith) (λ c. omega arith)
+    (tie.spec invariant-loop-j decreases-loop-j invariant-loop-i decreases-loop-i loop-i-init loop-j-init (λ c. omega arith) (λ c. omega arith)
     (λ c. omega arith) (λ c. omega arith) (search rules) (search rules) (search rules) (λ c. omega arith)
-    (λ c. omega arith) loop2-again (λ c. omega arith) (λ c. omega arith) loop-again returns)
+    (λ c. omega arith) loop-j-preserved (λ c. omega arith) (λ c. omega arith) loop-i-preserved returns)

@@ -9,18 +9,18 @@ use Rattle.pair.proofs.norm.max_relative_norm.Statement.{statement}
 use Rattle.pair.proofs.norm.max_relative_norm.Tie as tie
 
 fitting : (c : tie.Start) → PointsFit c.args.x
-fitting c = points_fit c.args.x _ c.well-formed.0
+fitting c = points_fit c.args.x _ c.well_formed.0
 
-returns : tie.Need-returns
-returns c =
+returns-then-refusal-eq0 : tie.Need-returns-then-refusal-eq0
+returns-then-refusal-eq0 c =
     norm_clauses _ _ (fitting c.before.before.before) _
     (ap Value c.norm.ensures
-    ∙ answered_value _ _ _ c.before.before.admit_split.ensures c.before.if1.true)
+    ∙ answered_value _ _ _ c.before.before.admit_split-refusal.ensures c.before.if-refusal-eq0.true)
 
-returns-2 : tie.Need-returns-2
-returns-2 c =
+returns-else-refusal-eq0 : tie.Need-returns-else-refusal-eq0
+returns-else-refusal-eq0 c =
     norm_clauses _ _ (fitting c.before.before) _
-    (answered_refused _ _ _ c.before.admit_split.ensures c.if1.false)
+    (answered_refused _ _ _ c.before.admit_split-refusal.ensures c.if-refusal-eq0.false)
 
 pub max_relative_norm_spec : {M : Type 1} → statement M
-max_relative_norm_spec = tie.close (tie.spec (search rules) (search rules) returns returns-2)
+max_relative_norm_spec = tie.close (tie.spec (search rules) (search rules) returns-then-refusal-eq0 returns-else-refusal-eq0)

@@ -6,17 +6,17 @@ use Rattle.pair.proofs.Norms.{raised_small, raised_large}
 use Rattle.pair.proofs.norm.norm.Statement.{statement}
 use Rattle.pair.proofs.norm.norm.Tie as tie
 
-returns : tie.Need-returns
+returns-then-source : tie.Need-returns-then-source
 unfolding norm_of
-returns c =
-    let n = c.before.source_norm in
-    sym (raised_small n.result c.if1.true) ∙ ap raised n.ensures
+returns-then-source c =
+    let n = c.before.source_norm-source in
+    sym (raised_small n.result c.if-source.true) ∙ ap raised n.ensures
 
-returns-2 : tie.Need-returns-2
+returns-else-source : tie.Need-returns-else-source
 unfolding norm_of
-returns-2 c =
-    let n = c.before.source_norm in
-    sym (raised_large n.result c.if1.false) ∙ ap raised n.ensures
+returns-else-source c =
+    let n = c.before.source_norm-source in
+    sym (raised_large n.result c.if-source.false) ∙ ap raised n.ensures
 
 pub norm_spec : {M : Type 1} → statement M
-norm_spec = tie.close (tie.spec (search rules) returns returns-2)
+norm_spec = tie.close (tie.spec (search rules) returns-then-source returns-else-source)

@@ -7,17 +7,17 @@ use Rattle.number.proofs.Answers.{taken, refused}
 use Rattle.pair.proofs.points.add_scaled.Statement.{statement}
 use Rattle.pair.proofs.points.add_scaled.Tie as tie
 
-returns : tie.Need-returns
+returns-then-refusal-eq0 : tie.Need-returns-then-refusal-eq0
 unfolding moved_into
-returns c =
-    let e = c.before.before.admit_time.ensures in
-    with_finite _ _ _ _ e (c.add_scaled.ensures ∙ taken _ _ _ _ e c.before.if1.true) (moved_finite _ _ _ _)
+returns-then-refusal-eq0 c =
+    let e = c.before.before.admit_time-refusal.ensures in
+    with_finite _ _ _ _ e (c.add_scaled.ensures ∙ taken _ _ _ _ e c.before.if-refusal-eq0.true) (moved_finite _ _ _ _)
 
-returns-2 : tie.Need-returns-2
+returns-else-refusal-eq0 : tie.Need-returns-else-refusal-eq0
 unfolding moved_into
-returns-2 c =
-    let e = c.before.admit_time.ensures in
-    with_finite _ _ _ _ e (refused _ _ _ _ e c.if1.false) (moved_finite _ _ _ _)
+returns-else-refusal-eq0 c =
+    let e = c.before.admit_time-refusal.ensures in
+    with_finite _ _ _ _ e (refused _ _ _ _ e c.if-refusal-eq0.false) (moved_finite _ _ _ _)
 
 pub add_scaled_spec : {M : Type 1} → statement M
-add_scaled_spec = tie.close (tie.spec (search rules) (search rules) returns returns-2)
+add_scaled_spec = tie.close (tie.spec (search rules) (search rules) returns-then-refusal-eq0 returns-else-refusal-eq0)

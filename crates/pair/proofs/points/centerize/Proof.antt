@@ -7,17 +7,17 @@ use Rattle.number.proofs.Answers.{taken, refused}
 use Rattle.pair.proofs.points.centerize.Statement.{statement}
 use Rattle.pair.proofs.points.centerize.Tie as tie
 
-returns : tie.Need-returns
+returns-then-refusal-eq0 : tie.Need-returns-then-refusal-eq0
 unfolding centred_in
-returns c =
-    let e = c.before.before.admit_points.ensures in
-    with_finite _ _ _ _ e (c.centerized.ensures ∙ taken _ _ _ _ e c.before.if1.true) (centred_finite _)
+returns-then-refusal-eq0 c =
+    let e = c.before.before.admit_points-refusal.ensures in
+    with_finite _ _ _ _ e (c.centerized.ensures ∙ taken _ _ _ _ e c.before.if-refusal-eq0.true) (centred_finite _)
 
-returns-2 : tie.Need-returns-2
+returns-else-refusal-eq0 : tie.Need-returns-else-refusal-eq0
 unfolding centred_in
-returns-2 c =
-    let e = c.before.admit_points.ensures in
-    with_finite _ _ _ _ e (refused _ _ _ _ e c.if1.false) (centred_finite _)
+returns-else-refusal-eq0 c =
+    let e = c.before.admit_points-refusal.ensures in
+    with_finite _ _ _ _ e (refused _ _ _ _ e c.if-refusal-eq0.false) (centred_finite _)
 
 pub centerize_spec : {M : Type 1} → statement M
-centerize_spec = tie.close (tie.spec (search rules) (search rules) returns returns-2)
+centerize_spec = tie.close (tie.spec (search rules) (search rules) returns-then-refusal-eq0 returns-else-refusal-eq0)

@@ -25,13 +25,13 @@ module _ (p q : List Float) (s : Float) (n : ℕ) (e : n ≡ ratio_refusal p q s
     λ z. subst (λ (v : List Float). T (of_three is_finite v)) (sym h) (place_finite p q s (sym e ∙ z)),
   )
 
-returns : tie.Need-returns
-returns c =
-    let e = c.before.before.admit_ratio.ensures in
-    made _ _ _ _ e _ (c.lerp.ensures ∙ taken _ _ _ _ e c.before.if1.true)
+returns-then-refusal-eq0 : tie.Need-returns-then-refusal-eq0
+returns-then-refusal-eq0 c =
+    let e = c.before.before.admit_ratio-refusal.ensures in
+    made _ _ _ _ e _ (c.lerp-point.ensures ∙ taken _ _ _ _ e c.before.if-refusal-eq0.true)
 
-returns-2 : tie.Need-returns-2
-returns-2 c = let e = c.before.admit_ratio.ensures in made _ _ _ _ e _ (refused _ _ _ _ e c.if1.false)
+returns-else-refusal-eq0 : tie.Need-returns-else-refusal-eq0
+returns-else-refusal-eq0 c = let e = c.before.admit_ratio-refusal.ensures in made _ _ _ _ e _ (refused _ _ _ _ e c.if-refusal-eq0.false)
 
 pub lerp_spec : {M : Type 1} → statement M
-lerp_spec = tie.close (tie.spec (search rules) (search rules) returns returns-2)
+lerp_spec = tie.close (tie.spec (search rules) (search rules) returns-then-refusal-eq0 returns-else-refusal-eq0)

@@ -39,14 +39,14 @@ module _ (x : List (List Float)) (split : ℕ) (n : ℕ) (e : n ≡ split_refusa
       (λ i. refused_by (e i))
       ∙ refused found (refused_by (split_refusal x split)) (split_refusal x split) n e z
 
-returns : tie.Need-returns
-returns c =
+returns-then-refusal-eq0 : tie.Need-returns-then-refusal-eq0
+returns-then-refusal-eq0 c =
     let z = c.before.before in
-    by_distance _ _ _ z.before.admit_split.ensures _ z.if1.true c.before.nearest.ensures
+    by_distance _ _ _ z.before.admit_split-refusal.ensures _ z.if-refusal-eq0.true c.before.nearest-found.ensures
 
-returns-2 : tie.Need-returns-2
-returns-2 c = by_refusal _ _ _ c.before.admit_split.ensures c.if1.false
+returns-else-refusal-eq0 : tie.Need-returns-else-refusal-eq0
+returns-else-refusal-eq0 c = by_refusal _ _ _ c.before.admit_split-refusal.ensures c.if-refusal-eq0.false
 
 pub squared_distance_spec : {M : Type 1} → statement M
 squared_distance_spec =
-    tie.close (tie.spec (search rules) (search rules) returns returns-2)
+    tie.close (tie.spec (search rules) (search rules) returns-then-refusal-eq0 returns-else-refusal-eq0)

@@ -7,17 +7,17 @@ use Rattle.root_sheet.specs.RootSheet.{is_plain}
 use Rattle.root_sheet.proofs.numeral.is_plain.Statement.{statement}
 use Rattle.root_sheet.proofs.numeral.is_plain.Tie as tie
 
-returns : tie.Need-returns
+returns-then-exponent-ge113 : tie.Need-returns-then-exponent-ge113
 unfolding is_plain
-returns c =
-    let e = c.before.args.exponent in sym (ap (λ (t : Bool). t && leb e 181) (le-leb 113 e c.if1.true))
+returns-then-exponent-ge113 c =
+    let e = c.before.args.exponent in sym (ap (λ (t : Bool). t && leb e 181) (le-leb 113 e c.if-exponent-ge113.true))
 
-returns-2 : tie.Need-returns-2
+returns-else-exponent-ge113 : tie.Need-returns-else-exponent-ge113
 unfolding is_plain
-returns-2 c =
+returns-else-exponent-ge113 c =
     let e = c.before.args.exponent in
-    let f = lt-leb 113 e c.if1.false in
+    let f = lt-leb 113 e c.if-exponent-ge113.false in
     f ∙ sym (ap (λ (t : Bool). t && leb e 181) f)
 
 pub is_plain_spec : {M : Type 1} → statement M
-is_plain_spec = tie.close (tie.spec returns returns-2)
+is_plain_spec = tie.close (tie.spec returns-then-exponent-ge113 returns-else-exponent-ge113)

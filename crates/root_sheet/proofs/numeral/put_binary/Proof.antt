@@ -8,15 +8,15 @@ use Rattle.root_sheet.proofs.Numerals.{back_le, part_short, whole_short, joined}
 use Rattle.root_sheet.proofs.numeral.put_binary.Statement.{statement}
 use Rattle.root_sheet.proofs.numeral.put_binary.Tie as tie
 
-sub-fraction : tie.Need-overflow-sub-fraction
-sub-fraction c = let s = c.before in back_le s.args.digits s.args.places s.requires.1 s.requires.2
+overflow_sub-fraction : tie.Need-overflow_sub-fraction
+overflow_sub-fraction c = let s = c.before in back_le s.args.digits s.args.places s.requires.1 s.requires.2
 
-cast-put-numeral : tie.Need-overflow-cast-put-numeral
-cast-put-numeral c =
+overflow-cast-put-numeral : tie.Need-overflow-cast-put-numeral
+overflow-cast-put-numeral c =
     let s = c.before.before in omega (arith, whole_short s.args.digits s.args.places s.requires.1 s.requires.2)
 
-put-numeral-requires : tie.Need-put-numeral-requires
-put-numeral-requires c κs =
+put_numeral-requires : tie.Need-put_numeral-requires
+put_numeral-requires c κs =
     let s = c.before.before in
     (s.requires.0, part_short s.args.digits s.args.places s.requires.1 s.requires.2)
 
@@ -32,5 +32,5 @@ returns c =
 pub put_binary_spec : {M : Type 1} → statement M
 put_binary_spec =
     tie.close
-    (tie.spec (search rules) (search rules) sub-fraction (search rules) (search rules) (search rules)
-    cast-put-numeral put-numeral-requires (search rules) returns)
+    (tie.spec (search rules) (search rules) overflow_sub-fraction (search rules) (search rules) (search rules)
+    overflow-cast-put-numeral put_numeral-requires (search rules) returns)

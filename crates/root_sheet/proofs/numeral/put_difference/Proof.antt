@@ -6,19 +6,19 @@ use Rattle.root_sheet.specs.RootSheet.{difference}
 use Rattle.root_sheet.proofs.numeral.put_difference.Statement.{statement}
 use Rattle.root_sheet.proofs.numeral.put_difference.Tie as tie
 
-returns : tie.Need-returns
+returns-then-k-c : tie.Need-returns-then-k-c
 unfolding difference
-returns c =
-    let sign = c.before.before.before.before.before.before in rw (lt-ltb _ _ sign.before.before.before.if1.true) (search (and_then), search rules)
+returns-then-k-c c =
+    let sign = c.before.before.before.before.before.before in rw (lt-ltb _ _ sign.before.before.before.if-k-c.true) (search (and_then), search rules)
 
-returns-2 : tie.Need-returns-2
+returns-else-k-c : tie.Need-returns-else-k-c
 unfolding difference
-returns-2 c =
+returns-else-k-c c =
     let put = c.before.before in
-    rw (le-ltb _ _ put.before.before.if1.false) (put.put-decimal2.ensures.0, search rules)
+    rw (le-ltb _ _ put.before.before.if-k-c.false) (put.put_decimal-else-k-c.ensures.0, search rules)
 
 pub put_difference_spec : {M : Type 1} → statement M
 put_difference_spec =
     tie.close
     (tie.spec (search rules) (search rules) (search rules) (search rules) (search rules) (search rules)
-    (search rules) returns (search rules) returns-2)
+    (search rules) returns-then-k-c (search rules) returns-else-k-c)

@@ -16,7 +16,7 @@ returns c =
       and_then (and_then (and_then (and_then word.put_bytes.ensures bits.put_hex.ensures.0)
           sign.put-bytes2.ensures)
           number.put_decimal_of.ensures.0)
-          end.put-bytes3.ensures,
+          end.put_bytes.ensures,
       search rules,
     )
 

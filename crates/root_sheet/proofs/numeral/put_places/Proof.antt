@@ -63,14 +63,14 @@ module _ (out₀ : List ℕ) (at fraction : ℕ) (out : List ℕ) (to f done : �
             ∙ h.rest;
       }
 
-abbrev invariant-loop : tie.invariant-loop
-invariant-loop out₀ at fraction to₀ f₀ done₀ out to f done = Stands out₀ at fraction out to f done
+abbrev invariant-loop-done : tie.invariant-loop-done
+invariant-loop-done out₀ at fraction to₀ f₀ done₀ out to f done = Stands out₀ at fraction out to f done
 
-abbrev decreases-loop : tie.decreases-loop
-decreases-loop out₀ at fraction to₀ f₀ done₀ out to f done = 60 - done
+abbrev decreases-loop-done : tie.decreases-loop-done
+decreases-loop-done out₀ at fraction to₀ f₀ done₀ out to f done = 60 - done
 
-loop-holds : tie.Need-loop-init invariant-loop decreases-loop
-loop-holds c = record {
+loop-done-init : tie.Need-loop-done-init invariant-loop-done decreases-loop-done
+loop-done-init c = record {
   few = omega arith;
   short = omega arith;
   small = c.before.requires.1;
@@ -79,54 +79,54 @@ loop-holds c = record {
   rest = refl;
 }
 
-same_length : tie.Need-same-length invariant-loop decreases-loop
-same_length c = keeps_length c.before.before.loop.invariant.put
+same-length : tie.Need-same-length invariant-loop-done decreases-loop-done
+same-length c = keeps_length c.before.before.loop-done.invariant.put
 
-returns : tie.Need-returns invariant-loop decreases-loop
-returns c =
-    let p = c.before.before.loop in
+returns-then-f-eq0 : tie.Need-returns-then-f-eq0 invariant-loop-done decreases-loop-done
+returns-then-f-eq0 c =
+    let p = c.before.before.loop-done in
     let s = p.invariant.short in
     let k = p.invariant.few in
-    (ended _ _ _ _ _ _ _ p.invariant (no_more _ _ c.if1.true), omega arith)
+    (ended _ _ _ _ _ _ _ p.invariant (no_more _ _ c.if-f-eq0.true), omega arith)
 
-mul-ten : tie.Need-overflow-mul-ten invariant-loop decreases-loop
-mul-ten c = let s = c.before.before.loop.invariant.small in omega arith
+overflow_mul-ten : tie.Need-overflow_mul-ten invariant-loop-done decreases-loop-done
+overflow_mul-ten c = let s = c.before.before.loop-done.invariant.small in omega arith
 
-cast-put-decimal : tie.Need-overflow-cast-put-decimal invariant-loop decreases-loop
-cast-put-decimal c =
-    let p = c.before.before.before.loop.invariant in let s = p.short in let k = p.few in omega arith
+overflow-cast-put-decimal : tie.Need-overflow-cast-put-decimal invariant-loop-done decreases-loop-done
+overflow-cast-put-decimal c =
+    let p = c.before.before.before.loop-done.invariant in let s = p.short in let k = p.few in omega arith
 
-cast-put-decimal-2 : tie.Need-overflow-cast-put-decimal-2 invariant-loop decreases-loop
-cast-put-decimal-2 c = let s = c.before.before.before.loop.invariant.small in omega arith
+overflow-cast-put-decimal-2 : tie.Need-overflow-cast-put-decimal-2 invariant-loop-done decreases-loop-done
+overflow-cast-put-decimal-2 c = let s = c.before.before.before.loop-done.invariant.small in omega arith
 
-put-decimal-requires : tie.Need-put-decimal-requires invariant-loop decreases-loop
-put-decimal-requires c κs = tt
+put_decimal-to-requires : tie.Need-put_decimal-to-requires invariant-loop-done decreases-loop-done
+put_decimal-to-requires c κs = tt
 
-add_done : tie.Need-overflow-add-done invariant-loop decreases-loop
-add_done c = search rules
+overflow_add-done : tie.Need-overflow_add-done invariant-loop-done decreases-loop-done
+overflow_add-done c = search rules
 
-loop-less : tie.Need-loop-smaller invariant-loop decreases-loop
-loop-less c = omega arith
+loop-done-smaller : tie.Need-loop-done-smaller invariant-loop-done decreases-loop-done
+loop-done-smaller c = omega arith
 
-loop-again : tie.Need-loop-preserved invariant-loop decreases-loop
-loop-again c =
+loop-done-preserved : tie.Need-loop-done-preserved invariant-loop-done decreases-loop-done
+loop-done-preserved c =
     let turn = c.before.before in
-    let p = turn.before.before.before.before.loop in
-    next _ _ _ _ _ _ _ p.invariant turn.before.before.if1.false turn.before.before.before.loop-test.true _ _
-    turn.put_decimal.ensures.0 turn.put_decimal.ensures.1
+    let p = turn.before.before.before.before.loop-done in
+    next _ _ _ _ _ _ _ p.invariant turn.before.before.if-f-eq0.false turn.before.before.before.loop-done-test.true _ _
+    turn.put_decimal-to.ensures.0 turn.put_decimal-to.ensures.1
 
-same_length_2 : tie.Need-same-length-2 invariant-loop decreases-loop
-same_length_2 c = keeps_length c.before.loop.invariant.put
+same-length-2 : tie.Need-same-length-2 invariant-loop-done decreases-loop-done
+same-length-2 c = keeps_length c.before.loop-done.invariant.put
 
-returns-2 : tie.Need-returns-2 invariant-loop decreases-loop
-returns-2 c =
-    let p = c.before.loop in
+returns : tie.Need-returns invariant-loop-done decreases-loop-done
+returns c =
+    let p = c.before.loop-done in
     let s = p.invariant.short in
     let k = p.invariant.few in
-    (ended _ _ _ _ _ _ _ p.invariant (spent p.done p.f c.loop-test.false), omega arith)
+    (ended _ _ _ _ _ _ _ p.invariant (spent p.done p.f c.loop-done-test.false), omega arith)
 
 pub put_places_spec : {M : Type 1} → statement M
 put_places_spec =
     tie.close
-    (tie.spec invariant-loop decreases-loop loop-holds same_length returns mul-ten cast-put-decimal cast-put-decimal-2
-    put-decimal-requires add_done loop-less loop-again same_length_2 returns-2)
+    (tie.spec invariant-loop-done decreases-loop-done loop-done-init same-length returns-then-f-eq0 overflow_mul-ten overflow-cast-put-decimal overflow-cast-put-decimal-2
+    put_decimal-to-requires overflow_add-done loop-done-smaller loop-done-preserved same-length-2 returns)

@@ -16,11 +16,11 @@ use Rattle.root_sheet.specs.RootSheet.{row, rows}
 use Rattle.root_sheet.proofs.row.put_rows.Statement.{statement}
 use Rattle.root_sheet.proofs.row.put_rows.Tie as tie
 
-abbrev invariant-loop : tie.invariant-loop
-invariant-loop out₀ at x to₀ i₀ out to i = (i ≤ 24) × (to ≤ at + 50 * i) × Put out₀ at (rows x i) out to
+abbrev invariant-loop-i : tie.invariant-loop-i
+invariant-loop-i out₀ at x to₀ i₀ out to i = (i ≤ 24) × (to ≤ at + 50 * i) × Put out₀ at (rows x i) out to
 
-abbrev decreases-loop : tie.decreases-loop
-decreases-loop out₀ at x to₀ i₀ out to i = 24 - i
+abbrev decreases-loop-i : tie.decreases-loop-i
+decreases-loop-i out₀ at x to₀ i₀ out to i = 24 - i
 
 -- the place of a digit, as the code makes it
 place_is : (i : ℕ) → 1 * 2 ^ (24 - i) % 4294967296 ≡ 2 ^ (24 - i)
@@ -30,13 +30,13 @@ one_more : (x : Float) (i : ℕ) → rows x i ++ row (2 ^ (24 - i)) (sheet_after
 unfolding rows
 one_more x i = rw add-one
 
-loop-holds : tie.Need-loop-init invariant-loop decreases-loop
+loop-i-init : tie.Need-loop-i-init invariant-loop-i decreases-loop-i
 unfolding rows
-loop-holds c = (search rules, search rules, nothing _ _)
+loop-i-init c = (search rules, search rules, nothing _ _)
 
-put-row-requires : tie.Need-put-row-requires invariant-loop decreases-loop
-put-row-requires c κs =
-    let p = c.before.before.before.before.loop in
+put_row-to-requires : tie.Need-put_row-to-requires invariant-loop-i decreases-loop-i
+put_row-to-requires c κs =
+    let p = c.before.before.before.before.loop-i in
     let m = pow_mono {i = 24 - p.i} {j = 24} (omega arith) in (
       search rules,
       rw (place_is p.i) m,
@@ -44,26 +44,26 @@ put-row-requires c κs =
       c.before.sheet_after.ensures.1.1,
     )
 
-loop-again : tie.Need-loop-preserved invariant-loop decreases-loop
-loop-again c =
+loop-i-preserved : tie.Need-loop-i-preserved invariant-loop-i decreases-loop-i
+loop-i-preserved c =
     let put = c.before.before in
     let after = put.before in
-    let p = after.before.before.before.before.loop in
+    let p = after.before.before.before.before.loop-i in
     let line =
-    rw (place_is p.i, after.before.sheet_after.ensures.0, after.sheet-after2.ensures.0) at
-    put.put_row.ensures.0 in
+    rw (place_is p.i, after.before.sheet_after.ensures.0, after.sheet_after-in-loop-i.ensures.0) at
+    put.put_row-to.ensures.0 in
     (search rules, search rules, as_text (one_more _ _) (and_then p.invariant.2 line))
 
-all : (c : tie.After-loop invariant-loop decreases-loop)
+all : (c : tie.After-loop-i invariant-loop-i decreases-loop-i)
     → let start = c.before.before.before.args in
-    Put start.out.now start.at (rows start.x 24) c.before.loop.out c.before.loop.to
+    Put start.out.now start.at (rows start.x 24) c.before.loop-i.out c.before.loop-i.to
 all c =
-    let end = le_antisymm c.before.loop.invariant.0 c.loop-test.false in
-    as_text (ap (rows _) end) c.before.loop.invariant.2
+    let end = le_antisymm c.before.loop-i.invariant.0 c.loop-i-test.false in
+    as_text (ap (rows _) end) c.before.loop-i.invariant.2
 
 pub put_rows_spec : {M : Type 1} → statement M
 put_rows_spec =
     tie.close
-    (tie.spec invariant-loop decreases-loop loop-holds (search rules) (search rules) (search rules) (search rules) (search rules)
-    (search rules) put-row-requires (search rules) (search rules) loop-again (λ c. keeps_length (all c))
+    (tie.spec invariant-loop-i decreases-loop-i loop-i-init (search rules) (search rules) (search rules) (search rules) (search rules)
+    (search rules) put_row-to-requires (search rules) (search rules) loop-i-preserved (λ c. keeps_length (all c))
     (λ c. (all c, search rules)))

@@ -6,9 +6,9 @@ use Rattle.root_sheet.specs.RootSheet.{tried}
 use Rattle.root_sheet.proofs.row.put_tried.Statement.{statement}
 use Rattle.root_sheet.proofs.row.put_tried.Tie as tie
 
-returns : tie.Need-returns
+returns-then-left-trial : tie.Need-returns-then-left-trial
 unfolding tried
-returns c =
+returns-then-left-trial c =
     let word = c.before.before in
     let trial = word.before.before.before.before.before.before in
     let left = trial.before.before.before.before in
@@ -20,9 +20,9 @@ returns c =
       search rules,
     )
 
-returns-2 : tie.Need-returns-2
+returns-else-left-trial : tie.Need-returns-else-left-trial
 unfolding tried
-returns-2 c =
+returns-else-left-trial c =
     let word = c.before.before in
     let trial = word.before.before.before.before.before.before in
     let left = trial.before.before.before.before in
@@ -30,7 +30,7 @@ returns-2 c =
     rw (le-ltb _ _ word.before.before.before.if1.false) (
       and_then (and_then (and_then place.put_cell.ensures.0 left.put-cell2.ensures.0)
           trial.put-cell3.ensures.0)
-          word.put-bytes2.ensures,
+          word.put_bytes-else-left-trial.ensures,
       search rules,
     )
 
@@ -38,5 +38,5 @@ pub put_tried_spec : {M : Type 1} → statement M
 put_tried_spec =
     tie.close
     (tie.spec (search rules) (search rules) (search rules) (search rules) (search rules) (search rules)
-    (search rules) (search rules) (search rules) (search rules) (search rules) (search rules) returns (search rules)
-    returns-2)
+    (search rules) (search rules) (search rules) (search rules) (search rules) (search rules) returns-then-left-trial (search rules)
+    returns-else-left-trial)
