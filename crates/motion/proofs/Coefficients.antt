@@ -77,6 +77,10 @@ unfolding is_finite of_bits
 four_finite p = go (is_finite p.c0) (is_finite p.c1) (is_finite p.c2) (is_finite p.c3)
   where
     go : (a b c d : Bool) → T a → T b → T c → T d → T (a && b && c && d && is_finite one32 && is_finite zero32)
+    go mathlib.Core.Bool.false b c d ha hb hc hd = elim ha [ ]
+    go true mathlib.Core.Bool.false c d ha hb hc hd = elim hb [ ]
+    go true true mathlib.Core.Bool.false d ha hb hc hd = elim hc [ ]
+    go true true true mathlib.Core.Bool.false ha hb hc hd = elim hd [ ]
     go true true true true ha hb hc hd = tt
 
 volume_finite : (x1 x2 x3 v1 v2 v3 : List Float) → Edge x1 → Edge x2 → Edge x3 → Edge v1 → Edge v2 → Edge v3

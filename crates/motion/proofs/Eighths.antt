@@ -8,7 +8,7 @@ use mathlib.Core.Path.{◌≡◌, refl, sym, ◌∙◌, subst}
 use mathlib.Core.Logic.{inl, inr}
 use mathlib.Core.Bool.{Bool, true, false, not}
 use lib.Dec.{T, ltb→lt, not_T}
-use lib.Ieee.{Float, fin, binary32, up, down, lt, fits, of_bits}
+use lib.Ieee.{Float, fin, binary32, up, down, lt, fits, of_bits, inf, nan}
 use lib.Ieee.Bits.{is_true, is_false}
 use Rattle.number.specs.Number.{◌⊗◌, ◌⊘◌, one32, is_finite}
 use Rattle.number.proofs.Units.{fit}
@@ -25,10 +25,14 @@ pub record Left (n : ℕ) (f : Float) : Type 0 where
 
 pub left_start : (f : Float) → T (fits binary32 f) → T (is_finite f) → Left 0 f
 unfolding is_finite
+left_start nan h k = elim k [ ]
+left_start (inf _) h k = elim k [ ]
 left_start (fin s m e) h k = record { few = omega arith; within = le_of_lt (fit s m e h).high }
 
 small : (f : Float) → Within 2 f → T (lt eight32 f) → ⊥
 unfolding lt of_bits
+small nan h k = elim h [ ]
+small (inf _) h k = elim h [ ]
 small (fin false m e) h k = none (m * up e) (down e) h (ltb→lt (1 * 8 * down e) (m * up e * 1) k)
   where
     none : (m d : ℕ) → m ≤ 2 ^ 2 * d → 1 * 8 * d < m * 1 → ⊥

@@ -9,7 +9,7 @@ use mathlib.Core.Path.{◌≡◌, refl, sym, ap, ◌∙◌, subst}
 use mathlib.Core.Bool.{Bool, true, false, not}
 use lib.Dec.{T, lit<, lit≤}
 use lib.Pow.{pow-add, pow_pos, pow_mono, pow-lt, shl_lt}
-use lib.Ieee.{Float, fin, binary32, up, down, round, div, lt, fits, of_bits}
+use lib.Ieee.{Float, fin, binary32, up, down, round, div, lt, fits, of_bits, inf, nan}
 use lib.Ieee.Fits.{mul-fits, down_pos}
 use Rattle.number.specs.Number.{◌⊗◌, ◌⊘◌, zero32, one32, is_finite}
 use Rattle.number.proofs.Rounding.{rnd, Rep, rnd_fix}
@@ -25,6 +25,8 @@ use Rattle.motion.proofs.Eighths.{eighths_turn, eighths_stop}
 
 -- a positive number of units has the sign plus
 units_plus : (x : Float) (u : ℕ) → Is x u → 0 < u → T (plus x)
+units_plus nan u i p = elim i [ ]
+units_plus (inf _) u i p = elim i [ ]
 units_plus (fin false m e) u i p = tt
 units_plus (fin true m e) u i p = none u i.1 p
   where
@@ -63,6 +65,8 @@ rep_eighth v (q, j, small, e) h = go (dec_le 3 j)
 -- an eighth that needs no rounding
 eighth_is : (f : Float) (v w : ℕ) → Is f v → 0 < v → v ≡ w * 8 → Rep w → w < Top → Is (f ⊘ eight32) w
 unfolding div of_bits
+eighth_is nan v w i p h r t = elim i [ ]
+eighth_is (inf _) v w i p h r t = elim i [ ]
 eighth_is (fin true m e) v w i p h r t = absurd (units_plus (fin true m e) v i p)
 eighth_is (fin false m e) v w i p h r t =
     let num = m * up e * 1 in

@@ -32,8 +32,8 @@ returns : tie.Need-returns
 returns c =
     let a = c.before.before.args in
     let r = c.maximum_safe_time_accurate.result in
-    let all = rw c.before.norm.ensures at c.maximum_safe_time_accurate.ensures in
-    let f = points_fit a.dx _ c.before.before.well-formed.1.0 in
+    let all = rw c.before.norm-u_max.ensures at c.maximum_safe_time_accurate.ensures in
+    let f = points_fit a.dx _ c.before.before.well_formed.1.0 in
     (all.0, (all.1, own_speed a.x0 a.dx a.split a.offset a.clearance a.max_t f r all.1))
 
 pub own_safe_time_spec : {M : Type 1} → statement M

@@ -40,33 +40,33 @@ clauses x dx {r} e h = (
   ),
 )
 
-returns : tie.Need-returns
+returns-then-refusal-eq0 : tie.Need-returns-then-refusal-eq0
 unfolding coplanar_times
-returns c =
+returns-then-refusal-eq0 c =
     let n = c.before.before.before in
     let a = n.before.args in
     let found = c.cubic_roots_in_range_zero_to_t in
     clauses a.x0 a.dx
     (found.ensures.0
-    ∙ ap (λ (p : Cubic). cubic_roots_in_range p one32 zero32) c.before.motion_cubic.ensures
+    ∙ ap (λ (p : Cubic). cubic_roots_in_range p one32 zero32) c.before.motion_cubic-p.ensures
     ∙ by.taken (cubic_roots_in_range (motion_cubic a.x0 a.dx) one32 zero32)
-    (refused (motion_refusal a.x0 a.dx)) (motion_refusal a.x0 a.dx) n.admit_motion.result
-    n.admit_motion.ensures c.before.before.if1.true)
+    (refused (motion_refusal a.x0 a.dx)) (motion_refusal a.x0 a.dx) n.admit_motion-refusal.result
+    n.admit_motion-refusal.ensures c.before.before.if-refusal-eq0.true)
     (found.ensures.1.0, found.ensures.1.1.0)
 
-returns-2 : tie.Need-returns-2
+returns-else-refusal-eq0 : tie.Need-returns-else-refusal-eq0
 unfolding coplanar_times
-returns-2 c =
+returns-else-refusal-eq0 c =
     let n = c.before.before in
     let a = n.before.args in
     clauses a.x0 a.dx
-    (c.refused.ensures ∙ ap refused n.admit_motion.ensures
+    (c.refused.ensures ∙ ap refused n.admit_motion-refusal.ensures
     ∙ by.refused (cubic_roots_in_range (motion_cubic a.x0 a.dx) one32 zero32)
-    (refused (motion_refusal a.x0 a.dx)) (motion_refusal a.x0 a.dx) n.admit_motion.result
-    n.admit_motion.ensures c.before.if1.false) (none_beside n.admit_motion.result c.refused.ensures)
+    (refused (motion_refusal a.x0 a.dx)) (motion_refusal a.x0 a.dx) n.admit_motion-refusal.result
+    n.admit_motion-refusal.ensures c.before.if-refusal-eq0.false) (none_beside n.admit_motion-refusal.result c.refused.ensures)
 
 pub coplanar_time_mat3x4_spec : {M : Type 1} → statement M
 coplanar_time_mat3x4_spec =
     tie.close
-    (tie.spec (search rules) (search rules) (search rules) (search rules) returns
-    returns-2)
+    (tie.spec (search rules) (search rules) (search rules) (search rules) returns-then-refusal-eq0
+    returns-else-refusal-eq0)

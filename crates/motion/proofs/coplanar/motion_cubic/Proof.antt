@@ -12,8 +12,8 @@ returns c =
     let b = e.before.before.before in
     c.volume.ensures
     ∙ (λ i.
-    volume (b.sub.ensures i) (e.before.before.sub2.ensures i) (e.before.sub3.ensures i) (e.sub4.ensures i)
-    (c.before.before.sub5.ensures i) (c.before.sub6.ensures i))
+    volume (b.sub.ensures i) (e.before.before.sub-2.ensures i) (e.before.sub-3.ensures i) (e.sub-4.ensures i)
+    (c.before.before.sub-5.ensures i) (c.before.sub-6.ensures i))
 
 pub motion_cubic_spec : {M : Type 1} → statement M
 motion_cubic_spec =

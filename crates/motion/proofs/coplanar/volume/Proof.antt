@@ -8,13 +8,13 @@ returns : tie.Need-returns
 unfolding volume
 returns c =
     rw (
-      c.scalar-triple-product8.ensures,
-      c.before.scalar-triple-product7.ensures,
-      c.before.before.scalar-triple-product6.ensures,
-      c.before.before.before.scalar-triple-product5.ensures,
-      c.before.before.before.before.scalar-triple-product4.ensures,
-      c.before.before.before.before.before.scalar-triple-product3.ensures,
-      c.before.before.before.before.before.before.scalar-triple-product2.ensures,
+      c.scalar_triple_product-8.ensures,
+      c.before.scalar_triple_product-7.ensures,
+      c.before.before.scalar_triple_product-6.ensures,
+      c.before.before.before.scalar_triple_product-5.ensures,
+      c.before.before.before.before.scalar_triple_product-4.ensures,
+      c.before.before.before.before.before.scalar_triple_product-3.ensures,
+      c.before.before.before.before.before.before.scalar_triple_product-2.ensures,
       c.before.before.before.before.before.before.before.scalar_triple_product.ensures,
     )
 

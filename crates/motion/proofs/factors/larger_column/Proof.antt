@@ -4,7 +4,7 @@ use Rattle.motion.proofs.factors.larger_column.Statement.{statement}
 use Rattle.motion.proofs.factors.larger_column.Tie as tie
 
 returns : tie.Need-returns
-returns c = rw (c.larger-entry3.ensures, c.before.larger-entry2.ensures, c.before.before.larger_entry.ensures)
+returns c = rw (c.larger_entry.ensures, c.before.larger_entry-b.ensures, c.before.before.larger_entry-a.ensures)
 
 pub larger_column_spec : {M : Type 1} → statement M
 larger_column_spec =

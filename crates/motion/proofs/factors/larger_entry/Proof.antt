@@ -8,8 +8,8 @@ returns : tie.Need-returns
 unfolding larger_entry
 returns c =
     rw (
-      c.larger2.ensures,
-      c.before.size2.ensures,
+      c.larger-2.ensures,
+      c.before.size-2.ensures,
       c.before.before.larger.ensures,
       c.before.before.before.size.ensures,
     )

@@ -12,29 +12,29 @@ use Rattle.motion.specs.Motion.{eightfold, scaled_by}
 use Rattle.motion.proofs.factors.scaled_by.Statement.{statement}
 use Rattle.motion.proofs.factors.scaled_by.Tie as tie
 
-abbrev invariant-loop : tie.invariant-loop
-invariant-loop n last y₀ k₀ y k = Capped eightfold n (eightfold n y₀) k y
+abbrev invariant-loop-k : tie.invariant-loop-k
+invariant-loop-k n last y₀ k₀ y k = Capped eightfold n (eightfold n y₀) k y
 
-abbrev decreases-loop : tie.decreases-loop
-decreases-loop n last y₀ k₀ y k = n - k
+abbrev decreases-loop-k : tie.decreases-loop-k
+decreases-loop-k n last y₀ k₀ y k = n - k
 
-loop-again : tie.Need-loop-preserved invariant-loop decreases-loop
+loop-k-preserved : tie.Need-loop-k-preserved invariant-loop-k decreases-loop-k
 unfolding eightfold
-loop-again c =
-    let l = c.before.before.loop in
+loop-k-preserved c =
+    let l = c.before.before.loop-k in
     capped_goes_on eightfold _ _ l.k l.y l.invariant (omega arith) _
-    (λ k. ap (eightfold k) (sym c.scaled.ensures))
+    (λ k. ap (eightfold k) (sym c.scaled-z.ensures))
 
-returns : tie.Need-returns invariant-loop decreases-loop
+returns : tie.Need-returns invariant-loop-k decreases-loop-k
 unfolding eightfold scaled_by
 returns c =
-    let l = c.before.before.loop in
+    let l = c.before.before.loop-k in
     let by = c.before.before.before.args.by in
     let all = capped_spent eightfold by.eights _ l.k l.y l.invariant (λ (h : l.k < by.eights). omega arith) in
-    c.scaled2.ensures ∙ ap (λ (z : List (List Float)). scaled z by.last) all
+    c.scaled.ensures ∙ ap (λ (z : List (List Float)). scaled z by.last) all
 
 pub scaled_by_spec : {M : Type 1} → statement M
 scaled_by_spec =
     tie.close
-    (tie.spec invariant-loop decreases-loop (λ c. capped_start eightfold _ _) (search rules) (λ c. omega arith) (λ c. omega arith)
-    loop-again (search rules) returns)
+    (tie.spec invariant-loop-k decreases-loop-k (λ c. capped_start eightfold _ _) (search rules) (λ c. omega arith) (λ c. omega arith)
+    loop-k-preserved (search rules) returns)

@@ -4,7 +4,7 @@ use Rattle.motion.proofs.scaling.admit_pair.Statement.{statement}
 use Rattle.motion.proofs.scaling.admit_pair.Tie as tie
 
 returns : tie.Need-returns
-returns c = rw (c.admit_time.ensures, c.before.dx_of.ensures, c.before.before.x_of.ensures)
+returns c = rw (c.admit_time.ensures, c.before.dx_of-dx.ensures, c.before.before.x_of-x.ensures)
 
 pub admit_pair_spec : {M : Type 1} → statement M
 admit_pair_spec = tie.close (tie.spec (search rules) (search rules) (search rules) returns)

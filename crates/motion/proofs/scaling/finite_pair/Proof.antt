@@ -8,10 +8,10 @@ returns : tie.Need-returns
 unfolding finite_pair
 returns c =
     rw (
-      c.points-finite2.ensures,
+      c.points_finite-2.ensures,
       c.before.points_finite.ensures,
-      c.before.before.dx_of.ensures,
-      c.before.before.before.x_of.ensures,
+      c.before.before.dx_of-dx.ensures,
+      c.before.before.before.x_of-x.ensures,
     )
 
 pub finite_pair_spec : {M : Type 1} → statement M

@@ -17,44 +17,44 @@ finite_of : (f : Float) (u : Bool) → u ≡ usable f → u ≡ true → is_fini
 unfolding usable
 finite_of f u e h = is_true (is_finite f) (and_l (is_finite f) (lt zero32 f) (subst T (sym h ∙ e) tt))
 
-returns : tie.Need-returns
-returns c =
-    c.refused.ensures ∙ by_admission _ _ _ c.before.before.admit_pair.ensures c.before.if1.true
+returns-then-refusal-ne0 : tie.Need-returns-then-refusal-ne0
+returns-then-refusal-ne0 c =
+    c.refused.ensures ∙ by_admission _ _ _ c.before.before.admit_pair-refusal.ensures c.before.if-refusal-ne0.true
 
-returns-2 : tie.Need-returns-2
-returns-2 c =
+returns-then-not-usable : tie.Need-returns-then-not-usable
+returns-then-not-usable c =
     let u = c.before.before in
     let z = u.before.before in
-    c.refused2.ensures
-    ∙ by_use _ _ _ z.before.admit_pair.ensures z.if1.false _ u.before.first_factor.ensures _
-    u.usable.ensures (not-true _ c.before.if2.true)
+    c.refused-then-not-usable.ensures
+    ∙ by_use _ _ _ z.before.admit_pair-refusal.ensures z.if-refusal-ne0.false _ u.before.first_factor-f.ensures _
+    u.usable.ensures (not-true _ c.before.if-not-usable.true)
 
-eighths-requires : tie.Need-eighths-requires
-eighths-requires c κs = finite_of _ _ c.before.usable.ensures (not-false _ c.if2.false)
+eighths-by-requires : tie.Need-eighths-by-requires
+eighths-by-requires c κs = finite_of _ _ c.before.usable.ensures (not-false _ c.if-not-usable.false)
 
-returns-3 : tie.Need-returns-3
-returns-3 c =
+returns-then-not-finite_pair : tie.Need-returns-then-not-finite_pair
+returns-then-not-finite_pair c =
     let b = c.before.before in
     let e = b.before.before in
     let u = e.before.before in
     let z = u.before.before in
-    c.refused3.ensures
-    ∙ by_size _ _ _ z.before.admit_pair.ensures z.if1.false _ u.before.first_factor.ensures _
-    u.usable.ensures (not-false _ e.before.if2.false) _ e.eighths.ensures _
-    b.before.scaled_with.ensures _ b.finite_pair.ensures (not-true _ c.before.if3.true)
+    c.refused-then-not-finite_pair.ensures
+    ∙ by_size _ _ _ z.before.admit_pair-refusal.ensures z.if-refusal-ne0.false _ u.before.first_factor-f.ensures _
+    u.usable.ensures (not-false _ e.before.if-not-usable.false) _ e.eighths-by.ensures _
+    b.before.scaled_with-scaled.ensures _ b.finite_pair.ensures (not-true _ c.before.if-not-finite_pair.true)
 
-returns-4 : tie.Need-returns-4
-returns-4 c =
+returns : tie.Need-returns
+returns c =
     let b = c.before in
     let e = b.before.before in
     let u = e.before.before in
     let z = u.before.before in
-    by_none _ _ _ z.before.admit_pair.ensures z.if1.false _ u.before.first_factor.ensures _
-    u.usable.ensures (not-false _ e.before.if2.false) _ e.eighths.ensures _
-    b.before.scaled_with.ensures _ b.finite_pair.ensures (not-false _ c.if3.false)
+    by_none _ _ _ z.before.admit_pair-refusal.ensures z.if-refusal-ne0.false _ u.before.first_factor-f.ensures _
+    u.usable.ensures (not-false _ e.before.if-not-usable.false) _ e.eighths-by.ensures _
+    b.before.scaled_with-scaled.ensures _ b.finite_pair.ensures (not-false _ c.if-not-finite_pair.false)
 
 pub scaled_pair_spec : {M : Type 1} → statement M
 scaled_pair_spec =
     tie.close
-    (tie.spec (search rules) (search rules) returns (search rules) (search rules) (search rules) returns-2
-    eighths-requires (search rules) (search rules) (search rules) returns-3 returns-4)
+    (tie.spec (search rules) (search rules) returns-then-refusal-ne0 (search rules) (search rules) (search rules) returns-then-not-usable
+    eighths-by-requires (search rules) (search rules) (search rules) returns-then-not-finite_pair returns)

@@ -20,8 +20,8 @@ made p q by x dx y dy qx qdx ey edy ex edx = λ i. record {
 returns : tie.Need-returns
 returns c =
     let x = c.before.before.before in
-    made _ _ _ _ _ _ _ c.pair_of.ensures.0 c.pair_of.ensures.1 x.scaled_by.ensures
-    c.before.scaled-by2.ensures x.before.x_of.ensures c.before.before.dx_of.ensures
+    made _ _ _ _ _ _ _ c.pair_of.ensures.0 c.pair_of.ensures.1 x.scaled_by-x.ensures
+    c.before.scaled_by-dx.ensures x.before.x_of.ensures c.before.before.dx_of.ensures
 
 pub scaled_with_spec : {M : Type 1} → statement M
 scaled_with_spec =

@@ -10,12 +10,12 @@ returns c =
     let second = c.before.before in
     let limits = second.before.before in
     rw (
-      c.word2.ensures,
+      c.word-2.ensures,
       c.before.pair_count.ensures,
       second.word.ensures,
       second.before.displacements_at.ensures.0,
-      limits.limits_at.ensures.0,
-      limits.before.point_count.ensures,
+      limits.limits_at-limits.ensures.0,
+      limits.before.point_count-points.ensures,
     )
 
 pub is_laid_out_spec : {M : Type 1} → statement M

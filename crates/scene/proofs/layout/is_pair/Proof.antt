@@ -10,11 +10,11 @@ returns c =
     let third = c.before.before in
     let first = third.before.before in
     rw (
-      c.word5.ensures,
-      c.before.word4.ensures,
-      third.word3.ensures,
-      third.before.word2.ensures,
-      first.word.ensures,
+      c.word-4.ensures,
+      c.before.word-3.ensures,
+      third.word-2.ensures,
+      third.before.word.ensures,
+      first.word-split.ensures,
     )
 
 pub is_pair_spec : {M : Type 1} → statement M

@@ -33,36 +33,36 @@ module _ (s : List ℕ) where
 both : (s : List ℕ) → Bytes s → (r : Scene) → r ≡ scene_of s → (r ≡ scene_of s) × Taken s r
 both s b r e = (e, rw e (taken_of s b))
 
-bytes : (c : tie.After-shared-slice-known) → Bytes c.before.args.s.now
-bytes c i = omega (arith, c.shared-slice-known.given i)
+bytes : (c : tie.After-shared_slice_known-1) → Bytes c.before.args.s.now
+bytes c i = omega (arith, c.shared_slice_known-1.given i)
 
-returns : tie.Need-returns
-returns c =
+returns-then-are_pairs : tie.Need-returns-then-are_pairs
+returns-then-are_pairs c =
     let counted = c.before.before in
     let test = counted.before.before in
     let first = test.before.is_laid_out in
     both _ (bytes test.before.before) _
-    (good_scene _ _ _ counted.before.point_count.ensures counted.pair_count.ensures
-    (sym first.ensures ∙ test.if1.true) (sym c.before.are_pairs.ensures ∙ c.if2.true))
+    (good_scene _ _ _ counted.before.point_count-points.ensures counted.pair_count-pairs.ensures
+    (sym first.ensures ∙ test.if-is_laid_out.true) (sym c.before.are_pairs.ensures ∙ c.if-are_pairs.true))
 
-returns-2 : tie.Need-returns-2
-returns-2 c =
+returns-else-are_pairs : tie.Need-returns-else-are_pairs
+returns-else-are_pairs c =
     let counted = c.before.before.before in
     let test = counted.before.before in
     let first = test.before.is_laid_out in
     both _ (bytes test.before.before) _
     (c.refused.ensures
-    ∙ bad_scene _ _ _ counted.before.point_count.ensures counted.pair_count.ensures
-    (sym first.ensures ∙ test.if1.true) (sym c.before.before.are_pairs.ensures ∙ c.before.if2.false))
+    ∙ bad_scene _ _ _ counted.before.point_count-points.ensures counted.pair_count-pairs.ensures
+    (sym first.ensures ∙ test.if-is_laid_out.true) (sym c.before.before.are_pairs.ensures ∙ c.before.if-are_pairs.false))
 
-returns-3 : tie.Need-returns-3
-returns-3 c =
+returns-else-is_laid_out : tie.Need-returns-else-is_laid_out
+returns-else-is_laid_out c =
     let first = c.before.before in
     both _ (bytes first.before) _
-    (c.refused2.ensures ∙ wrong_scene _ (sym first.is_laid_out.ensures ∙ c.before.if1.false))
+    (c.refused-else-is_laid_out.ensures ∙ wrong_scene _ (sym first.is_laid_out.ensures ∙ c.before.if-is_laid_out.false))
 
 pub read_spec : {M : Type 1} → statement M
 read_spec =
     tie.close
-    (tie.spec (search rules) (search rules) (search rules) (search rules) (search rules) (search rules) returns
-    returns-2 returns-3)
+    (tie.spec (search rules) (search rules) (search rules) (search rules) (search rules) (search rules) returns-then-are_pairs
+    returns-else-are_pairs returns-else-is_laid_out)

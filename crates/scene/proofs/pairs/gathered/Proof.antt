@@ -10,11 +10,11 @@ returns c =
     let second = c.before.before in
     let place = second.before.before in
     rw (
-      c.chosen4.ensures,
-      c.before.chosen3.ensures,
-      second.chosen2.ensures,
+      c.chosen-4.ensures,
+      c.before.chosen-3.ensures,
+      second.chosen-2.ensures,
       second.before.chosen.ensures,
-      place.pair_at.ensures.0,
+      place.pair_at-at.ensures.0,
       place.before.point_count.ensures,
     )
 

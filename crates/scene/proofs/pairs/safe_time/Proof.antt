@@ -12,8 +12,8 @@ returns c =
     let first = third.before.before in
     let split = first.before in
     rw (
-      third.limit-of3.ensures,
-      third.before.limit-of2.ensures,
+      third.limit_of-3.ensures,
+      third.before.limit_of-2.ensures,
       first.limit_of.ensures,
       split.split_of.ensures,
       split.before.displacements_of.ensures,

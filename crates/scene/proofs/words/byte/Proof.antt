@@ -5,8 +5,8 @@ use lib.ListN.{get_or-eq_default}
 use Rattle.scene.proofs.words.byte.Statement.{statement}
 use Rattle.scene.proofs.words.byte.Tie as tie
 
-returns-2 : tie.Need-returns-2
-returns-2 c = (sym (get_or-eq_default c.before.before.args.s.now 0 c.if1.false), search rules)
+returns-else-at-s : tie.Need-returns-else-at-s
+returns-else-at-s c = (sym (get_or-eq_default c.before.before.args.s.now 0 c.if-at-s.false), search rules)
 
 pub byte_spec : {M : Type 1} → statement M
-byte_spec = tie.close (tie.spec (search rules) (search rules) (search rules) returns-2)
+byte_spec = tie.close (tie.spec (search rules) (search rules) (search rules) returns-else-at-s)
