@@ -4,6 +4,5 @@ pub mod Exact
 pub mod Scalings
 mod Refusals
 pub mod Coefficients
-mod Into
 mod Outcomes
 mod Lent

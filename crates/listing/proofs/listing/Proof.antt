@@ -25,19 +25,19 @@ module _ (s : List ℕ) (x : Scene) (e : x ≡ scene_of s) where
       by_number zero n = absurd (n refl)
       by_number (suc r) n = refl
 
-put-pairs-requires : tie.Need-put-pairs-requires
-put-pairs-requires c κs = rw c.before.before.before.read.ensures.0 (few_pairs _)
+put_pairs-requires : tie.Need-put_pairs-requires
+put_pairs-requires c κs = rw c.before.before.before.read-scene.ensures.0 (few_pairs _)
 
-returns : tie.Need-returns
-returns c =
+returns-then-scene-eq0 : tie.Need-returns-then-scene-eq0
+returns-then-scene-eq0 c =
     let put = c.before.before in
     let taken = put.before.before in
-    let read = taken.before.before.read in
-    let text = as_text (lists _ read.result read.ensures.0 taken.if1.true) put.put_pairs.ensures.0 in
+    let read = taken.before.before.read-scene in
+    let text = as_text (lists _ read.result read.ensures.0 taken.if-scene-eq0.true) put.put_pairs.ensures.0 in
     (text, (put.put_pairs.ensures.1, whole_text text))
 
-returns-2 : tie.Need-returns-2
-returns-2 c =
+returns-else-scene-eq0 : tie.Need-returns-else-scene-eq0
+returns-else-scene-eq0 c =
     let put = c.before.before in
     let left = put.before.before.before in
     let read = left.before.before.read in
@@ -47,5 +47,5 @@ returns-2 c =
 pub listing_spec : {M : Type 1} → statement M
 listing_spec =
     tie.close
-    (tie.spec (search rules) put-pairs-requires (search rules) (search rules) (search rules) returns (search rules)
-    returns-2)
+    (tie.spec (search rules) put_pairs-requires (search rules) (search rules) (search rules) returns-then-scene-eq0 (search rules)
+    returns-else-scene-eq0)

@@ -5,40 +5,40 @@ use Rattle.text.proofs.Puts.{and_then}
 use Rattle.listing.proofs.line.put_ending.Statement.{statement}
 use Rattle.listing.proofs.line.put_ending.Tie as tie
 
-returns : tie.Need-returns
+returns-in-Touching : tie.Need-returns-in-Touching
 unfolding ending timed
-returns c =
+returns-in-Touching c =
     let put = c.before.before in
-    rw put.before.before.before.before.answer.given.1 put.put_timed.ensures
+    rw put.before.before.before.before.in-Touching.is put.put_timed.ensures
 
-returns-2 : tie.Need-returns-2
+returns-in-Contact : tie.Need-returns-in-Contact
 unfolding ending timed
-returns-2 c =
+returns-in-Contact c =
     let put = c.before.before in
-    rw put.before.before.before.before.answer2.given.1 put.put-timed2.ensures
+    rw put.before.before.before.before.in-Contact.is put.put_timed-in-Contact.ensures
 
-returns-3 : tie.Need-returns-3
+returns-in-Clear : tie.Need-returns-in-Clear
 unfolding ending timed
-returns-3 c =
+returns-in-Clear c =
     let put = c.before.before in
-    rw put.before.before.before.before.answer3.given.1 put.put-timed3.ensures
+    rw put.before.before.before.before.in-Clear.is put.put_timed-in-Clear.ensures
 
-returns-4 : tie.Need-returns-4
+returns-in-Budget : tie.Need-returns-in-Budget
 unfolding ending timed
-returns-4 c =
+returns-in-Budget c =
     let put = c.before.before in
-    rw put.before.before.before.before.answer4.given.1 put.put-timed4.ensures
+    rw put.before.before.before.before.in-Budget.is put.put_timed-in-Budget.ensures
 
-returns-5 : tie.Need-returns-5
+returns-in-Refused : tie.Need-returns-in-Refused
 unfolding ending
-returns-5 c =
+returns-in-Refused c =
     let word = c.before.before.before.before.before.before in
-    rw word.before.before.before.before.answer5.given.1 (search (and_then), search rules)
+    rw word.before.before.before.before.in-Refused.is (search (and_then), search rules)
 
 pub put_ending_spec : {M : Type 1} → statement M
 put_ending_spec =
     tie.close
     (tie.spec (search rules) (search rules) (search rules) (search rules) (search rules) (search rules) (search rules) (search rules)
     (search rules) (search rules) (search rules) (search rules) (search rules) (search rules) (search rules)
-    (search rules) (search rules) (search rules) returns (search rules) returns-2 (search rules) returns-3
-    (search rules) returns-4 (search rules) returns-5)
+    (search rules) (search rules) (search rules) returns-in-Touching (search rules) returns-in-Contact (search rules) returns-in-Clear
+    (search rules) returns-in-Budget (search rules) returns-in-Refused)

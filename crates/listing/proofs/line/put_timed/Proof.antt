@@ -12,10 +12,10 @@ returns c =
     let probes = halvings.before.before.before.before in
     let time = probes.before.before.before.before in
     let kind = time.before.before.before.before in (
-      and_then (and_then (and_then kind.put_bytes.ensures
-          time.put_bits.ensures.0)
-          probes.put_spaced.ensures.0)
-          halvings.put-spaced2.ensures.0,
+      and_then (and_then (and_then kind.put_bytes-a.ensures
+          time.put_bits-b.ensures.0)
+          probes.put_spaced-c.ensures.0)
+          halvings.put_spaced.ensures.0,
       search rules,
     )
 

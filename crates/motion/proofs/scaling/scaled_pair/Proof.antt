@@ -6,7 +6,6 @@ use lib.Ieee.{Float, lt}
 use lib.Ieee.Bits.{is_true}
 use lib.Ieee.Fits.{and_l}
 use borrow.Author.Rules.{rules}
-use borrow.Author.Tests.{not-true, not-false}
 use Rattle.number.specs.Number.{zero32, is_finite}
 use Rattle.motion.specs.Motion.{usable}
 use Rattle.motion.proofs.Outcomes.{by_admission, by_use, by_size, by_none}
@@ -27,10 +26,10 @@ returns-then-not-usable c =
     let z = u.before.before in
     c.refused-then-not-usable.ensures
     ∙ by_use _ _ _ z.before.admit_pair-refusal.ensures z.if-refusal-ne0.false _ u.before.first_factor-f.ensures _
-    u.usable.ensures (not-true _ c.before.if-not-usable.true)
+    u.usable.ensures c.before.if-not-usable.true
 
 eighths-by-requires : tie.Need-eighths-by-requires
-eighths-by-requires c κs = finite_of _ _ c.before.usable.ensures (not-false _ c.if-not-usable.false)
+eighths-by-requires c κs = finite_of _ _ c.before.usable.ensures c.if-not-usable.false
 
 returns-then-not-finite_pair : tie.Need-returns-then-not-finite_pair
 returns-then-not-finite_pair c =
@@ -40,8 +39,8 @@ returns-then-not-finite_pair c =
     let z = u.before.before in
     c.refused-then-not-finite_pair.ensures
     ∙ by_size _ _ _ z.before.admit_pair-refusal.ensures z.if-refusal-ne0.false _ u.before.first_factor-f.ensures _
-    u.usable.ensures (not-false _ e.before.if-not-usable.false) _ e.eighths-by.ensures _
-    b.before.scaled_with-scaled.ensures _ b.finite_pair.ensures (not-true _ c.before.if-not-finite_pair.true)
+    u.usable.ensures e.before.if-not-usable.false _ e.eighths-by.ensures _
+    b.before.scaled_with-scaled.ensures _ b.finite_pair.ensures c.before.if-not-finite_pair.true
 
 returns : tie.Need-returns
 returns c =
@@ -50,8 +49,8 @@ returns c =
     let u = e.before.before in
     let z = u.before.before in
     by_none _ _ _ z.before.admit_pair-refusal.ensures z.if-refusal-ne0.false _ u.before.first_factor-f.ensures _
-    u.usable.ensures (not-false _ e.before.if-not-usable.false) _ e.eighths-by.ensures _
-    b.before.scaled_with-scaled.ensures _ b.finite_pair.ensures (not-false _ c.if-not-finite_pair.false)
+    u.usable.ensures e.before.if-not-usable.false _ e.eighths-by.ensures _
+    b.before.scaled_with-scaled.ensures _ b.finite_pair.ensures c.if-not-finite_pair.false
 
 pub scaled_pair_spec : {M : Type 1} → statement M
 scaled_pair_spec =
