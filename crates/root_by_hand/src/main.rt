@@ -75,7 +75,7 @@ fn after(s: Reading, bytes: &[u8]) -> Reading {
 fn usage() {
     io::write_all(
         STDERR_FILENO,
-        b"usage: root_by_hand < FILE\n_reads patterns of eight hexadecimal digits and writes how each root is found.\n",
+        b"usage: root_by_hand < FILE\nReads patterns of eight hexadecimal digits and writes how each root is found.\n",
     );
 }
 

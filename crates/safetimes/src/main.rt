@@ -64,7 +64,7 @@ fn read_all(buffer: &mut [u8]) -> Got
 fn usage() {
     io::write_all(
         STDERR_FILENO,
-        b"usage: safetimes < FILE\n_reads a scene file and writes the safe time of each of its pairs.\n",
+        b"usage: safetimes < FILE\nReads a scene file and writes the safe time of each of its pairs.\n",
     );
 }
 
