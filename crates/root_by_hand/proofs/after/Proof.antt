@@ -14,6 +14,5 @@ decreases-loop bytes s₀ i₀ s i = length bytes - i
 pub after_spec : {M : Type 1} → statement M
 after_spec =
     tie.close
-    (tie.spec invariant-loop decreases-loop (search rules) (search rules) (search rules) (search rules) (search rules) (search
-    rules)
-    (search rules) (search rules) (search rules) (search rules))
+    (tie.spec invariant-loop decreases-loop (search rules) (search rules) (search rules) (search rules) (search rules)
+    (search rules) (search rules) (search rules) (search rules) (search rules))

@@ -22,5 +22,5 @@ returns-3 c = prefix_len_of_le _ _ (search rules)
 pub read_all_spec : {M : Type 1} → statement M
 read_all_spec =
     tie.close
-    (tie.spec invariant-loop decreases-loop (search rules) (search rules) (search rules) (search rules) (search rules) returns-2
-    (search rules) (search rules) (search rules) (search rules) returns-3)
+    (tie.spec invariant-loop decreases-loop (search rules) (search rules) (search rules) (search rules) (search rules)
+    returns-2 (search rules) (search rules) (search rules) (search rules) returns-3)
