@@ -3,7 +3,6 @@
 use mathlib.Core.Path.{◌≡◌, refl, ap, ◌∙◌}
 use mathlib.Core.Bool.{Bool, true, false, cond}
 use mathlib.Core.List.{List, [], ◌∷◌}
-use Prim.Native.Nat.{◌-◌}
 use lib.Dec.{T, not_T}
 use lib.Ieee.Bits.{is_false}
 use lib.Ieee.{Float, lt, le}

@@ -1,7 +1,7 @@
 -- A pair that is lent to a scaling: the answer, and which pair lies behind the reference at the end, the outcome's where
 -- it was stored and the old one where nothing was. Assumes nothing.
-use mathlib.Core.Path.{◌≡◌, refl, ap, sym, ◌∙◌}
-use mathlib.Core.Bool.{Bool, true, false, cond}
+use mathlib.Core.Path.{◌≡◌, ap, sym, ◌∙◌}
+use mathlib.Core.Bool.{Bool, false, cond}
 use lib.Dec.{eqb}
 use lib.Ieee.{Float}
 use Rattle.motion.specs.declared.record.Pair.{Pair}

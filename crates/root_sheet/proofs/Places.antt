@@ -5,10 +5,9 @@ use native.Mathlib.Omega.{arith}
 use mathlib.Core.Path.{◌≡◌, refl, sym, ap, ◌∙◌}
 use mathlib.Core.Bool.{Bool, cond}
 use mathlib.Core.List.{List, [], ◌++◌, append-nil, append_assoc}
-use borrow.Author.Rules.{rules}
 use borrow.Author.Tests.{eq-eqb, ne_eqb}
 use Rattle.text.specs.Text.{Put, decimal}
-use Rattle.text.proofs.Puts.{and_then, as_text, keeps_length, nothing}
+use Rattle.text.proofs.Puts.{and_then, as_text}
 use Rattle.root_sheet.specs.RootSheet.{places}
 
 -- ---- the definition, taken apart

@@ -2,7 +2,6 @@
 use mathlib.Core.Path.{◌≡◌, sym, ap, ◌∙◌}
 use Prim.Native.Nat.{ℕ}
 use lib.Ieee.{Float}
-use borrow.Author.Rules.{rules}
 use Rattle.number.specs.declared.answer.Answered.{Answered}
 use Rattle.number.specs.Number.{answered, root_of, root_refusal}
 use Rattle.number.specs.Pattern.{float_of}

@@ -1,6 +1,5 @@
 -- Whole part and fraction are the number.
 use native.Mathlib.Omega.{arith}
-use borrow.Author.Rules.{rules}
 use Rattle.text.proofs.Puts.{as_text}
 use mathlib.Core.Path.{ap}
 use Rattle.root_sheet.specs.RootSheet.{numeral}

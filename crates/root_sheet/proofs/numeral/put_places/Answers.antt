@@ -1,5 +1,5 @@
 -- Each turn puts a digit, and what the definition makes of the rest follows.
-use Rattle.std.proofs.Common.{◌≡◌, ℕ, [], refl, arith, rules}
+use Rattle.std.proofs.Common.{[], refl, arith}
 use Rattle.text.proofs.Puts.{nothing}
 use Rattle.root_sheet.proofs.Places.{no_more, spent, ended, next}
 use Rattle.root_sheet.proofs.numeral.put_places.Goals as goal

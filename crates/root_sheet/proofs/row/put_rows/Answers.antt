@@ -1,5 +1,5 @@
 -- Line after line.
-use Prim.Native.Nat.{ℕ, ◌+◌, ◌-◌, ◌*◌, ◌%◌, ◌^◌, ◌≤◌}
+use Prim.Native.Nat.{ℕ, ◌+◌, ◌-◌, ◌*◌, ◌%◌, ◌^◌}
 use native.Mathlib.Nat.{le_antisymm, one-mul}
 use native.Mathlib.Numerals.{add-one}
 use native.Mathlib.Omega.{arith}
@@ -9,8 +9,7 @@ use borrow.Author.Rules.{rules}
 use lib.Ieee.{Float}
 use lib.Pow.{pow_mono, shl_exact}
 use Rattle.number.specs.ByHand.{sheet_after}
-use Rattle.text.specs.Text.{Put}
-use Rattle.text.proofs.Puts.{and_then, as_text, keeps_length, nothing}
+use Rattle.text.proofs.Puts.{and_then, as_text, nothing}
 use Rattle.root_sheet.specs.RootSheet.{row, rows}
 use Rattle.root_sheet.proofs.row.put_rows.Goals as goal
 
