@@ -58,15 +58,13 @@ fn wide(b: u8) -> u32 {
 // After these bytes.
 fn after(output: &mut impl Write, s: Reading, bytes: &[u8]) -> io::Result<Reading> {
     let mut s = s;
-    let mut i = 0;
-    while i < bytes.len() {
-        let c = wide(bytes[i]);
+    for b in bytes {
+        let c = wide(*b);
         if is_blank(c) {
             s = answered(output, s)?;
         } else {
             s = longer(s, c);
         }
-        i += 1;
     }
     Ok(s)
 }
