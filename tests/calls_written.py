@@ -19,10 +19,10 @@ TESTING = ROOT / "docs/TESTING.md"
 RATTLE = """\
 // How many bytes a call and its answer take, by the number of the function. A call has the word of that number before
 // its arguments. Made of tests/calls.txt by tests/calls_written.py.
-ghost use Prim.Native.Nat.{{_<_, _≤_}};
+ghost use Rattle.std.specs.Prelude.{{◌<◌, ◌≤◌}};
 
 pub(crate) fn of_call(function: u32) -> usize
-    ensures {{ λ r. ⌜ (0 < r) × (r ≤ {most_call}) ⌝ }}
+    ensures {{ (0 < result) × (result ≤ {most_call}) }}
 {{
     match function {{
 {calls}        _ => 4,
@@ -30,7 +30,7 @@ pub(crate) fn of_call(function: u32) -> usize
 }}
 
 pub(crate) fn of_answer(function: u32) -> usize
-    ensures {{ λ r. ⌜ r ≤ {most_answer} ⌝ }}
+    ensures {{ result ≤ {most_answer} }}
 {{
     match function {{
 {answers}        _ => 0,

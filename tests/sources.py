@@ -39,9 +39,9 @@ def without_comments(path):
 
 
 def occurs(name, text):
-    """Whether an identifier, or each symbol of an operator such as _⊕_, stands in the text."""
-    if not re.fullmatch(rf"«?{WORD}+»?", name) or name.startswith("_"):
-        return all(part in text for part in name.split("_") if part)
+    """Whether an identifier, or each symbol of an operator such as ◌⊕◌, stands in the text."""
+    if "◌" in name:
+        return all(part in text for part in name.split("◌") if part)
     return re.search(rf"(?<!{WORD}){re.escape(name)}(?!{WORD})", text) is not None
 
 
@@ -49,7 +49,7 @@ def words(text):
     return Counter(re.findall(rf"{WORD}+", text))
 
 
-SOURCES = {path: without_comments(path) for path in sorted(CRATES.rglob("*.rt"))}
+SOURCES = {path: without_comments(path) for path in sorted(CRATES.glob("*/src/**/*.rt"))}
 SPECS = {path: without_comments(path) for path in sorted(CRATES.glob("*/specs/**/*.antt"))}
 PROOFS = {path: without_comments(path) for path in sorted(CRATES.glob("*/proofs/**/*.antt"))}
 IS_LIBRARY = {path.parent.parent.name for path in SOURCES if path.name == "lib.rt"}
@@ -137,7 +137,7 @@ def hold_calls():
 
 # ---- definitions and laws
 DEFINED = re.compile(
-    rf"^(?P<indent> *)(?:abbrev |unfoldable )?pub (?P<record>record |data )?(?P<name>{WORD}+|_\S+_) *[:({{]", re.M
+    rf"^(?P<indent> *)(?:abbrev |unfoldable )?pub (?P<record>record |data )?(?P<name>{WORD}+|◌\S+◌) *[:({{]", re.M
 )
 
 
@@ -157,9 +157,11 @@ def definitions(text):
 
 
 def contract_of(function, text):
-    """What a function's contract says between the brackets of the logic, without the fields that it reads."""
-    said = re.findall(r"⌜.*?⌝", text[function.start():].split("{\n", 1)[0], re.S)
-    return re.sub(r"\s\.\w+", "", "\n".join(said))
+    """What a function's contract says, without the fields that it reads."""
+    head = text[function.start():].split("{\n", 1)[0]
+    said = re.search(r"\b(?:requires|ensures)\b.*", head, re.S)
+    # a module's name begins with a capital, a value's with a small letter
+    return re.sub(r"(\b[a-z_]\w*|\))(?:\.\w+)+", r"\1", said[0]) if said else ""
 
 
 def reached_from(contracts, waiting):
@@ -218,12 +220,14 @@ def hold_laws():
         laws = list(LAW.finditer(body))
         for law, end in zip(laws, [law.start() for law in laws[1:]] + [len(body)]):
             name, text = law["name"], body[law.start():end]
-            cited = counts[name] > words(text)[name] or name.endswith("-spec") or f"`{name}`" in STATEMENTS
-            if not cited:
+            is_goal = name.endswith("_spec") or re.search(r": (?:goal|tie)\.", law[0] + body[law.end():law.end() + 9])
+            if not is_goal and counts[name] <= words(text)[name] and f"`{name}`" not in STATEMENTS:
                 fault(name_of(path), f"nothing cites {name}")
-    for name in re.findall(r"`([a-z]+(?:-[a-z]+)+)`", STATEMENTS):
-        if not counts[name]:
-            fault("docs/STATEMENTS.md", f"there is no law {name}")
+    there = counts + sum((words(text) for text in [*SOURCES.values(), *SPECS.values()]), Counter())
+    there.update(edit.stem for edit in CRATES.glob("*/must-fail/*.edit"))
+    for name in re.findall(r"`([a-z]+(?:_[a-z]+)+)`", STATEMENTS):
+        if not there[name]:
+            fault("docs/STATEMENTS.md", f"there is no {name}")
 
 
 # ---- must-fail edits
@@ -322,7 +326,7 @@ def hold_statements():
 def library_crates():
     """The crates that the archive is made of: what `urtemval` rests on stands above it in crates.txt."""
     lines = (ROOT / "crates.txt").read_text().split("\n")
-    names = [line.split(":")[0] for line in lines if re.match(r"\w+:", line)]
+    names = [line.split(":")[0].split()[0] for line in lines if re.match(r"\w[\w ]*:", line)]
     return names[: names.index("urtemval") + 1]
 
 

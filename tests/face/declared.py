@@ -63,7 +63,7 @@ def rust_functions(source, pattern):
 
 
 def rust_fields(source, name):
-    body = found(rf"#\[repr\(C\)\] pub struct {name} {{(.*?)}}", source, f"the record {name}").group(1)
+    body = found(rf"#\[repr\(C\)\](?: #\[derive\([\w, ]+\)\])? pub struct {name} {{(.*?)}}", source, f"the record {name}").group(1)
     return re.findall(r"pub (\w+): (\[f32; 3\]|\w+)", body)
 
 
@@ -73,7 +73,7 @@ def rattle_records():
 
 def rattle_functions():
     sources = "".join(text(p.relative_to(ROOT)) for p in sorted((ROOT / "crates/urtemval/src").glob("*.rt")))
-    pattern = r'#\[no_mangle\] pub extern "C" fn (\w+)\((.*?)\) -> (\w+)'
+    pattern = r'#\[unsafe\(no_mangle\)\] pub extern "C" fn (\w+)\((.*?)\) -> (\w+)'
     return rust_functions(sources, pattern)
 
 

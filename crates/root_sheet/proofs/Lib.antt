@@ -1,2 +1,3 @@
 -- Laws of this crate. Assumes nothing.
 mod Numerals
+mod Places

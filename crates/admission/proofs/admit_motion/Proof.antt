@@ -44,4 +44,5 @@ returns c =
 pub admit_motion_spec : {M : Type 1} → statement M
 admit_motion_spec =
     tie.close
-    (tie.spec (search rules) (search rules) returns-then-points_in_bound (search rules) (search rules) (search rules) returns)
+    (tie.spec (search rules) (search rules) returns-then-points_in_bound (search rules) (search rules) (search rules)
+    returns)

@@ -60,5 +60,5 @@ returns c =
 pub admit_time_spec : {M : Type 1} → statement M
 admit_time_spec =
     tie.close
-    (tie.spec (search rules) (search rules) (search rules) returns-then-points_in_bound-zero_to_one (search rules) (search rules) (search rules)
-    (search rules) returns)
+    (tie.spec (search rules) (search rules) (search rules) returns-then-points_in_bound-zero_to_one (search rules)
+    (search rules) (search rules) (search rules) returns)

@@ -48,5 +48,5 @@ returns c =
 pub admit_walk_spec : {M : Type 1} → statement M
 admit_walk_spec =
     tie.close
-    (tie.spec (search rules) (search rules) (search rules) (search rules) (search rules) returns-then-points_in_bound-limits_ranged (search rules)
-    (search rules) (search rules) (search rules) returns)
+    (tie.spec (search rules) (search rules) (search rules) (search rules) (search rules)
+    returns-then-points_in_bound-limits_ranged (search rules) (search rules) (search rules) (search rules) returns)

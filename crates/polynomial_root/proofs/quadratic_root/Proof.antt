@@ -48,4 +48,5 @@ returns c =
 pub quadratic_root_spec : {M : Type 1} → statement M
 quadratic_root_spec =
     tie.close
-    (tie.spec (search rules) (search rules) returns-then-refusal-ne0 (search rules) returns-then-c2 (search rules) (search rules) returns)
+    (tie.spec (search rules) (search rules) returns-then-refusal-ne0 (search rules) returns-then-c2 (search rules)
+    (search rules) returns)

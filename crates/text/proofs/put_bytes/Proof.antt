@@ -33,5 +33,6 @@ returns c = as_text (take_all _ _ c.loop-i-test.false) c.before.loop-i.invariant
 pub put_bytes_spec : {M : Type 1} → statement M
 put_bytes_spec =
     tie.close
-    (tie.spec invariant-loop-i decreases-loop-i (λ c. (search rules, search rules, nothing _ _)) (search rules) (search rules)
-    (search rules) (search rules) loop-i-preserved (λ c. keeps_length c.before.loop-i.invariant.2) returns)
+    (tie.spec invariant-loop-i decreases-loop-i (λ c. (search rules, search rules, nothing _ _)) (search rules)
+    (search rules) (search rules) (search rules) loop-i-preserved (λ c. keeps_length c.before.loop-i.invariant.2)
+    returns)

@@ -110,6 +110,7 @@ returns-then-lefts-j c =
 pub over_sides_spec : {M : Type 1} → statement M
 over_sides_spec =
     tie.close
-    (tie.spec invariant-loop-j decreases-loop-j invariant-sides decreases-sides sides-init (search rules) (search rules) (search rules)
-    (search rules) loop-j-init (search rules) (search rules) (search rules) (search rules) (search rules) (search rules)
-    (search rules) loop-j-preserved (search rules) (search rules) sides-preserved returns-after-sides returns-then-lefts-j)
+    (tie.spec invariant-loop-j decreases-loop-j invariant-sides decreases-sides sides-init (search rules) (search rules)
+    (search rules) (search rules) loop-j-init (search rules) (search rules) (search rules) (search rules) (search rules)
+    (search rules) (search rules) loop-j-preserved (search rules) (search rules) sides-preserved returns-after-sides
+    returns-then-lefts-j)

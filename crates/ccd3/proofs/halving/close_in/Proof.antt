@@ -100,5 +100,5 @@ returns c =
 pub close_in_spec : {M : Type 1} → statement M
 close_in_spec =
     tie.close
-    (tie.spec invariant-loop-count decreases-loop-count loop-count-init (search rules) (search rules) returns-then-narrower-window (search rules)
-    loop-count-preserved returns)
+    (tie.spec invariant-loop-count decreases-loop-count loop-count-init (search rules) (search rules)
+    returns-then-narrower-window (search rules) loop-count-preserved returns)

@@ -199,6 +199,7 @@ loop-x0-preserved c =
 pub walk_spec : {M : Type 1} → statement M
 walk_spec =
     tie.close
-    (tie.spec invariant-loop-x0 decreases-loop-x0 loop-x0-init (search rules) (search rules) (search rules) returns-then-l-next
-    (search rules) returns-then-probes-allowance (search rules) (search rules) returns-then-probes-stays (search rules)
-    (search rules) (search rules) (search rules) loop-x0-preserved (search rules) returns-else-threshold-near)
+    (tie.spec invariant-loop-x0 decreases-loop-x0 loop-x0-init (search rules) (search rules) (search rules)
+    returns-then-l-next (search rules) returns-then-probes-allowance (search rules) (search rules)
+    returns-then-probes-stays (search rules) (search rules) (search rules) (search rules) loop-x0-preserved
+    (search rules) returns-else-threshold-near)

@@ -61,5 +61,6 @@ returns c =
 pub edge_edge_spec : {M : Type 1} → statement M
 edge_edge_spec =
     tie.close
-    (tie.spec (λ c κs. tt) (λ c κs. tt) (λ c κs. tt) (λ c κs. tt) (λ c κs. tt) (λ c κs. tt) (λ c κs. tt)
-    (λ c κs. tt) (λ c κs. tt) (λ c κs. tt) returns-then-edges_meet-inner returns-then-c3-least2 returns-then-c2-least1 returns-then-c1-c0 returns)
+    (tie.spec (λ c κs. tt) (λ c κs. tt) (λ c κs. tt) (λ c κs. tt) (λ c κs. tt) (λ c κs. tt) (λ c κs. tt) (λ c κs. tt)
+    (λ c κs. tt) (λ c κs. tt) returns-then-edges_meet-inner returns-then-c3-least2 returns-then-c2-least1
+    returns-then-c1-c0 returns)

@@ -29,4 +29,5 @@ returns c =
 pub face_above_spec : {M : Type 1} → statement M
 face_above_spec =
     tie.close
-    (tie.spec (λ c κs. tt) (λ c κs. tt) (λ c κs. tt) returns-then-over_face-inner (λ c κs. tt) (λ c κs. tt) (λ c κs. tt) returns)
+    (tie.spec (λ c κs. tt) (λ c κs. tt) (λ c κs. tt) returns-then-over_face-inner (λ c κs. tt) (λ c κs. tt) (λ c κs. tt)
+    returns)

@@ -21,4 +21,6 @@ returns-else-length c =
     )
 
 pub ratio_spec : {M : Type 1} → statement M
-ratio_spec = tie.close (tie.spec (λ c κs. tt) (λ c κs. tt) (λ c κs. tt) (λ c κs. tt) returns-then-length returns-else-length)
+ratio_spec =
+    tie.close
+    (tie.spec (λ c κs. tt) (λ c κs. tt) (λ c κs. tt) (λ c κs. tt) returns-then-length returns-else-length)

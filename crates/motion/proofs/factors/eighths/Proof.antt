@@ -48,4 +48,5 @@ returns c =
 pub eighths_spec : {M : Type 1} → statement M
 eighths_spec =
     tie.close
-    (tie.spec invariant-loop-last decreases-loop-last loop-last-init (λ c. omega (arith, more c)) (λ c. omega (arith, more c)) loop-last-preserved returns)
+    (tie.spec invariant-loop-last decreases-loop-last loop-last-init (λ c. omega (arith, more c))
+    (λ c. omega (arith, more c)) loop-last-preserved returns)

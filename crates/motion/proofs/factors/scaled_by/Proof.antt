@@ -36,5 +36,5 @@ returns c =
 pub scaled_by_spec : {M : Type 1} → statement M
 scaled_by_spec =
     tie.close
-    (tie.spec invariant-loop-k decreases-loop-k (λ c. capped_start eightfold _ _) (search rules) (λ c. omega arith) (λ c. omega arith)
-    loop-k-preserved (search rules) returns)
+    (tie.spec invariant-loop-k decreases-loop-k (λ c. capped_start eightfold _ _) (search rules) (λ c. omega arith)
+    (λ c. omega arith) loop-k-preserved (search rules) returns)

@@ -55,5 +55,6 @@ returns c =
 pub scaled_pair_spec : {M : Type 1} → statement M
 scaled_pair_spec =
     tie.close
-    (tie.spec (search rules) (search rules) returns-then-refusal-ne0 (search rules) (search rules) (search rules) returns-then-not-usable
-    eighths-by-requires (search rules) (search rules) (search rules) returns-then-not-finite_pair returns)
+    (tie.spec (search rules) (search rules) returns-then-refusal-ne0 (search rules) (search rules) (search rules)
+    returns-then-not-usable eighths-by-requires (search rules) (search rules) (search rules)
+    returns-then-not-finite_pair returns)

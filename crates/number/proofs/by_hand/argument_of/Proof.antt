@@ -85,5 +85,5 @@ returns-else-x c = not_above_none c.before.args.x c.if-x.false
 pub argument_of_spec : {M : Type 1} → statement M
 argument_of_spec =
     tie.close
-    (tie.spec float_to_bits-b overflow_sub-z overflow_shl-digits overflow_sub-exponent (search rules) (search rules) (search rules) returns-in-0
-    returns-in-1-to-254 returns-in_default returns-else-x)
+    (tie.spec float_to_bits-b overflow_sub-z overflow_shl-digits overflow_sub-exponent (search rules) (search rules)
+    (search rules) returns-in-0 returns-in-1-to-254 returns-in_default returns-else-x)

@@ -71,4 +71,5 @@ returns-else-turns-lt25 c =
 pub sheet_after_spec : {M : Type 1} → statement M
 sheet_after_spec =
     tie.close
-    (tie.spec (search rules) even-n-requires worked-requires worked-requires-else-turns-lt25 returns-then-turns-lt25 returns-else-turns-lt25)
+    (tie.spec (search rules) even-n-requires worked-requires worked-requires-else-turns-lt25 returns-then-turns-lt25
+    returns-else-turns-lt25)

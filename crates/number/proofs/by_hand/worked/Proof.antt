@@ -83,4 +83,7 @@ returns c =
     subst (λ (q : ℕ). OnSheet (a.args.n * 2 ^ 25) q p.s) (p.invariant.at ∙ ap (λ (j : ℕ). 2 ^ (25 - j)) e) p.invariant.on
 
 pub worked_spec : {M : Type 1} → statement M
-worked_spec = tie.close (tie.spec invariant-loop-done decreases-loop-done loop-done-init digit-s-requires overflow_add-done loop-done-smaller loop-done-preserved returns)
+worked_spec =
+    tie.close
+    (tie.spec invariant-loop-done decreases-loop-done loop-done-init digit-s-requires overflow_add-done
+    loop-done-smaller loop-done-preserved returns)

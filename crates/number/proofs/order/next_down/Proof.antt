@@ -39,4 +39,6 @@ unfolding next_down
 returns-else-x c = rw c.if-x.false
 
 pub next_down_spec : {M : Type 1} → statement M
-next_down_spec = tie.close (tie.spec float_to_bits-result overflow_sub-result float_from_bits-result returns-then-x returns-else-x)
+next_down_spec =
+    tie.close
+    (tie.spec float_to_bits-result overflow_sub-result float_from_bits-result returns-then-x returns-else-x)

@@ -58,4 +58,6 @@ returns-else-a-eq0 c =
     c.before.before.before.before.args.x t.scale t.above t.finite)
 
 pub root_spec : {M : Type 1} → statement M
-root_spec = tie.close (tie.spec (search rules) root_bits-requires float_from_bits-result returns-then-a-eq0 returns-else-a-eq0)
+root_spec =
+    tie.close
+    (tie.spec (search rules) root_bits-requires float_from_bits-result returns-then-a-eq0 returns-else-a-eq0)

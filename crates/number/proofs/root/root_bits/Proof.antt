@@ -62,4 +62,5 @@ returns c =
 pub root_bits_spec : {M : Type 1} → statement M
 root_bits_spec =
     tie.close
-    (tie.spec (search rules) worked-requires digit-s-requires (search rules) overflow_add-result-2 overflow_add-result-3 returns)
+    (tie.spec (search rules) worked-requires digit-s-requires (search rules) overflow_add-result-2 overflow_add-result-3
+    returns)

@@ -76,6 +76,7 @@ returns c =
 pub largest_square_spec : {M : Type 1} → statement M
 largest_square_spec =
     tie.close
-    (tie.spec invariant-loop-j decreases-loop-j invariant-loop-i decreases-loop-i loop-i-init loop-j-init (λ c. omega arith) (λ c. omega arith)
-    (λ c. omega arith) (λ c. omega arith) (search rules) (search rules) (search rules) (λ c. omega arith)
-    (λ c. omega arith) loop-j-preserved (λ c. omega arith) (λ c. omega arith) loop-i-preserved returns)
+    (tie.spec invariant-loop-j decreases-loop-j invariant-loop-i decreases-loop-i loop-i-init loop-j-init
+    (λ c. omega arith) (λ c. omega arith) (λ c. omega arith) (λ c. omega arith) (search rules) (search rules)
+    (search rules) (λ c. omega arith) (λ c. omega arith) loop-j-preserved (λ c. omega arith) (λ c. omega arith)
+    loop-i-preserved returns)

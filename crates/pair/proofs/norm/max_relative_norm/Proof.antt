@@ -23,4 +23,6 @@ returns-else-refusal-eq0 c =
     (answered_refused _ _ _ c.before.admit_split-refusal.ensures c.if-refusal-eq0.false)
 
 pub max_relative_norm_spec : {M : Type 1} → statement M
-max_relative_norm_spec = tie.close (tie.spec (search rules) (search rules) returns-then-refusal-eq0 returns-else-refusal-eq0)
+max_relative_norm_spec =
+    tie.close
+    (tie.spec (search rules) (search rules) returns-then-refusal-eq0 returns-else-refusal-eq0)

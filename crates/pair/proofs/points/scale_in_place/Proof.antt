@@ -20,4 +20,6 @@ returns-else-refusal-eq0 c =
     with_finite _ _ _ _ e (refused _ _ _ _ e c.if-refusal-eq0.false) (scaled_finite _ _)
 
 pub scale_in_place_spec : {M : Type 1} → statement M
-scale_in_place_spec = tie.close (tie.spec (search rules) (search rules) returns-then-refusal-eq0 returns-else-refusal-eq0)
+scale_in_place_spec =
+    tie.close
+    (tie.spec (search rules) (search rules) returns-then-refusal-eq0 returns-else-refusal-eq0)

@@ -60,4 +60,6 @@ returns-else-in_bound-above_zero_to_one c =
 pub admit_cubic_spec : {M : Type 1} → statement M
 admit_cubic_spec =
     tie.close
-    (tie.spec (search rules) (search rules) (search rules) (search rules) (search rules) (search rules) (search rules) (search rules) (search rules) (search rules) (search rules) (search rules) (search rules) returns-then-in_bound-above_zero_to_one returns-else-in_bound-above_zero_to_one)
+    (tie.spec (search rules) (search rules) (search rules) (search rules) (search rules) (search rules) (search rules)
+    (search rules) (search rules) (search rules) (search rules) (search rules) (search rules)
+    returns-then-in_bound-above_zero_to_one returns-else-in_bound-above_zero_to_one)

@@ -48,4 +48,5 @@ returns-else-in_bound c =
 pub admit_quadratic_spec : {M : Type 1} → statement M
 admit_quadratic_spec =
     tie.close
-    (tie.spec (search rules) (search rules) (search rules) (search rules) (search rules) (search rules) (search rules) returns-then-in_bound returns-else-in_bound)
+    (tie.spec (search rules) (search rules) (search rules) (search rules) (search rules) (search rules) (search rules)
+    returns-then-in_bound returns-else-in_bound)

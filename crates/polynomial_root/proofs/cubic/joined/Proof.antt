@@ -19,5 +19,5 @@ returns-in-Refused c = rw c.before.in-Refused.is c.refused.ensures
 pub joined_spec : {M : Type 1} → statement M
 joined_spec =
     tie.close
-    (tie.spec (search rules) (search rules) (search rules) (search rules) (search rules) returns-in-Nothing returns-in-Root
-    returns-in-Refused)
+    (tie.spec (search rules) (search rules) (search rules) (search rules) (search rules) returns-in-Nothing
+    returns-in-Root returns-in-Refused)

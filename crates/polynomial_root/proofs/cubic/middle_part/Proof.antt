@@ -23,4 +23,5 @@ returns-else-e0-t c = rw c.if-e0-t.false
 pub middle_part_spec : {M : Type 1} → statement M
 middle_part_spec =
     tie.close
-    (tie.spec (search rules) (search rules) (search rules) (search rules) (search rules) returns-then-e0-t returns-else-e0-t)
+    (tie.spec (search rules) (search rules) (search rules) (search rules) (search rules) returns-then-e0-t
+    returns-else-e0-t)

@@ -39,4 +39,6 @@ returns-in-Both c =
 pub span_roots_spec : {M : Type 1} → statement M
 span_roots_spec =
     tie.close
-    (tie.spec (search rules) (search rules) (search rules) (search rules) (search rules) (search rules) (search rules) (search rules) (search rules) (search rules) (search rules) (search rules) (search rules) (search rules) returns-in-Neither returns-in-Both)
+    (tie.spec (search rules) (search rules) (search rules) (search rules) (search rules) (search rules) (search rules)
+    (search rules) (search rules) (search rules) (search rules) (search rules) (search rules) (search rules)
+    returns-in-Neither returns-in-Both)

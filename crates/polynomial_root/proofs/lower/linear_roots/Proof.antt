@@ -28,4 +28,5 @@ returns-else-f0-ft c = rw c.before.if-f0-ft.false c.refused-else-f0-ft.ensures
 pub linear_roots_spec : {M : Type 1} → statement M
 linear_roots_spec =
     tie.close
-    (tie.spec (search rules) (search rules) (search rules) (search rules) (search rules) returns-then-f0-ft-2 returns-else-f0-ft-2 returns-else-f0-ft)
+    (tie.spec (search rules) (search rules) (search rules) (search rules) (search rules) returns-then-f0-ft-2
+    returns-else-f0-ft-2 returns-else-f0-ft)

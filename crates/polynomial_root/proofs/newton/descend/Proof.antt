@@ -51,5 +51,5 @@ returns c =
 pub descend_spec : {M : Type 1} → statement M
 descend_spec =
     tie.close
-    (tie.spec invariant-loop-i decreases-loop-i loop-i-init (search rules) (search rules) returns-then-size-epsilon (search rules) returns-then-f-d
-    (search rules) (λ c. omega arith) (λ c. omega arith) loop-i-preserved returns)
+    (tie.spec invariant-loop-i decreases-loop-i loop-i-init (search rules) (search rules) returns-then-size-epsilon
+    (search rules) returns-then-f-d (search rules) (λ c. omega arith) (λ c. omega arith) loop-i-preserved returns)

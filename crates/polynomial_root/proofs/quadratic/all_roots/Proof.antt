@@ -18,5 +18,5 @@ returns-in-Both c =
 pub all_roots_spec : {M : Type 1} → statement M
 all_roots_spec =
     tie.close
-    (tie.spec (search rules) (search rules) (search rules) (search rules) (search rules) (search rules) returns-in-Neither
-    returns-in-Both)
+    (tie.spec (search rules) (search rules) (search rules) (search rules) (search rules) (search rules)
+    returns-in-Neither returns-in-Both)

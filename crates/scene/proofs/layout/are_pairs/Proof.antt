@@ -30,5 +30,5 @@ returns c = c.before.loop-i.invariant.1 ∙ ap (are_pairs _ _) (le_antisymm c.be
 pub are_pairs_spec : {M : Type 1} → statement M
 are_pairs_spec =
     tie.close
-    (tie.spec invariant-loop-i decreases-loop-i loop-i-init (search rules) (search rules) (search rules) (search rules) loop-i-preserved
-    returns)
+    (tie.spec invariant-loop-i decreases-loop-i loop-i-init (search rules) (search rules) (search rules) (search rules)
+    loop-i-preserved returns)

@@ -64,5 +64,5 @@ returns-else-is_laid_out c =
 pub read_spec : {M : Type 1} → statement M
 read_spec =
     tie.close
-    (tie.spec (search rules) (search rules) (search rules) (search rules) (search rules) (search rules) returns-then-are_pairs
-    returns-else-are_pairs returns-else-is_laid_out)
+    (tie.spec (search rules) (search rules) (search rules) (search rules) (search rules) (search rules)
+    returns-then-are_pairs returns-else-are_pairs returns-else-is_laid_out)

@@ -29,4 +29,5 @@ pub safe_time_spec : {M : Type 1} → statement M
 safe_time_spec =
     tie.close
     (tie.spec (search rules) (search rules) (search rules) (search rules) (search rules) (search rules) (search rules)
-    (search rules) (search rules) (search rules) returns-in-Touching returns-in-Contact returns-in-Clear returns-in-Budget returns-in-Refused)
+    (search rules) (search rules) (search rules) returns-in-Touching returns-in-Contact returns-in-Clear
+    returns-in-Budget returns-in-Refused)

@@ -67,4 +67,5 @@ returns-else-told-eq0 c =
 pub urtemval_scale_pair_spec : {M : Type 1} → statement M
 urtemval_scale_pair_spec =
     tie.close
-    (tie.spec (search rules) (search rules) (search rules) (search rules) (search rules) returns-then-told-eq0 returns-else-told-eq0)
+    (tie.spec (search rules) (search rules) (search rules) (search rules) (search rules) returns-then-told-eq0
+    returns-else-told-eq0)
