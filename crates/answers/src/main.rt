@@ -5,6 +5,7 @@
 #![tactic(auto)]
 
 ghost use Rattle.io.specs.Counts.{IsPrefixLen};
+ghost use Rattle.std.specs.Io.{ReadsAtMost};
 
 mod calls;
 mod points;
@@ -13,6 +14,9 @@ mod safe_time;
 mod scaling;
 mod sizes;
 mod words;
+
+use std::io;
+use std::io::{Read, Write};
 
 // Answers the calls of one block, and says how many bytes the answers take. The calls end with the block, or at a word
 // that is no function's number.
@@ -41,23 +45,42 @@ fn answer_block(block: &[u8], out: &mut [u8]) -> usize
     to
 }
 
-// Reads a block and writes its answers. Says whether to go on.
-fn answer_some() -> bool {
-    let mut block = io::large_buffer();
-    let n = io::read_full(0, &mut block);
-    if n == 0 {
-        return false;
+// Reads until the block is full or the input ends; how many bytes.
+fn read_block(input: &mut impl Read, block: &mut [u8]) -> io::Result<usize>
+    ensures { ReadsAtMost result block.new }
+{
+    let mut at = 0;
+    while at < block.len() {
+        let n = input.read(&mut block[at..])?;
+        if n == 0 {
+            return Ok(at);
+        }
+        at += n;
     }
-    let mut out = io::large_buffer();
-    let m = answer_block(&block[..n], &mut out);
-    io::write_all(1, &out[..m])
+    Ok(at)
 }
 
-// A proved loop has to end, and nothing says that the input does: the turns are counted down from a number that no run
-// uses up.
-fn main() {
-    let mut turns = u64::MAX;
-    while turns > 0 && answer_some() {
-        turns -= 1;
+// Reads a block and writes its answers. Says whether to go on.
+fn answer_some(input: &mut impl Read, output: &mut impl Write) -> io::Result<bool> {
+    let mut block = [0u8; words::BLOCK];
+    let n = read_block(input, &mut block)?;
+    if n == 0 {
+        return Ok(false);
     }
+    let mut out = [0u8; words::BLOCK];
+    let m = answer_block(&block[..n], &mut out);
+    output.write_all(&out[..m])?;
+    Ok(true)
+}
+
+// A proved loop has to end, and nothing says that the input does: the turns are of a number that no run uses up.
+fn main(rt: HostRuntime) -> io::Result<()> {
+    let mut input = rt.stdin();
+    let mut output = rt.stdout();
+    for _ in 0..u64::MAX {
+        if !answer_some(&mut input, &mut output)? {
+            break;
+        }
+    }
+    Ok(())
 }

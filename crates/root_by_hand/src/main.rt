@@ -4,52 +4,51 @@
 
 #![tactic(auto)]
 
+mod failure;
 mod word;
 
+use crate::failure::Failure;
 use crate::word::{Reading, is_blank, longer};
-use libc::{STDERR_FILENO, STDIN_FILENO, STDOUT_FILENO};
+use std::env::{Env, FillError};
+use std::io;
+use std::io::{Read, Write};
 
-fn write(text: &[u8]) -> bool {
-    io::write_all(STDOUT_FILENO, text)
-}
-
-fn write_sheet(bits: u32) -> bool {
-    let mut text = io::buffer();
+fn write_sheet(output: &mut impl Write, bits: u32) -> io::Result<()> {
+    let mut text = [0u8; 4096];
     let n = root_sheet::sheet(bits, &mut text);
-    write(&text[..n])
+    output.write_all(&text[..n])
 }
 
-fn write_refused(word: u32) -> bool {
-    let mut digits = [0u8; 20];
-    let k = io::decimal(word as u64, &mut digits);
-    write(b"word ")
-        && write(&digits[..k])
-        && write(b" refused: a pattern has eight hexadecimal digits\n")
+fn write_refused(output: &mut impl Write, word: u32) -> io::Result<()> {
+    writeln!(
+        output,
+        "word {word} refused: a pattern has eight hexadecimal digits"
+    )
 }
 
-fn write_word(bits: u32, length: u32, word: u32) -> bool {
+fn write_word(output: &mut impl Write, bits: u32, length: u32, word: u32) -> io::Result<()> {
     if length == 8 {
-        write_sheet(bits)
+        write_sheet(output, bits)
     } else {
-        write_refused(word)
+        write_refused(output, word)
     }
 }
 
 // Answers the word, where there is one.
-fn answered(s: Reading) -> Reading {
+fn answered(output: &mut impl Write, s: Reading) -> io::Result<Reading> {
     if s.length == 0 {
-        return s;
+        return Ok(s);
     }
     let mut words = s.words;
     if words < 0xffff_ffff {
         words += 1;
     }
-    Reading {
+    write_word(output, s.bits, s.length, words)?;
+    Ok(Reading {
         bits: 0,
         length: 0,
         words,
-        written: s.written && write_word(s.bits, s.length, words),
-    }
+    })
 }
 
 fn wide(b: u8) -> u32 {
@@ -57,61 +56,55 @@ fn wide(b: u8) -> u32 {
 }
 
 // After these bytes.
-fn after(s: Reading, bytes: &[u8]) -> Reading {
+fn after(output: &mut impl Write, s: Reading, bytes: &[u8]) -> io::Result<Reading> {
     let mut s = s;
-    let mut i = 0;
-    while i < bytes.len() {
-        let c = wide(bytes[i]);
+    for b in bytes {
+        let c = wide(*b);
         if is_blank(c) {
-            s = answered(s);
+            s = answered(output, s)?;
         } else {
             s = longer(s, c);
         }
-        i += 1;
     }
-    s
+    Ok(s)
 }
 
-fn usage() {
-    io::write_all(
-        STDERR_FILENO,
-        b"usage: root_by_hand < FILE\nReads patterns of eight hexadecimal digits and writes how each root is found.\n",
-    );
+// Whether a word follows the program's name.
+fn has_argument(rt: &impl Env) -> bool {
+    !matches!(rt.arg(1, &mut []), Err(FillError::NotPresent))
+}
+
+fn usage(rt: &impl Eprint) -> io::Result<()> {
+    eprint!(rt;
+        "usage: root_by_hand < FILE\nReads patterns of eight hexadecimal digits and writes how each root is found.\n"
+    )
 }
 
 // Reads to the end, a block at a time; the last word may end with the input.
-fn read_all() {
-    let mut buffer = io::buffer();
+fn read_all(input: &mut impl Read, output: &mut impl Write) -> Result<(), Failure> {
+    let mut buffer = [0u8; 4096];
     let mut s = Reading {
         bits: 0,
         length: 0,
         words: 0,
-        written: true,
     };
-    let mut turns = u64::MAX;
-    while turns > 0 && s.written {
-        turns -= 1;
-        let got = libc::read(STDIN_FILENO, &mut buffer);
-        if got < 0 {
-            os::fail(b"root_by_hand: standard input");
-            return;
-        }
-        let n = io::count(got, &buffer);
+    for _ in 0..u64::MAX {
+        let n = input.read(&mut buffer).map_err(Failure::Input)?;
         if n == 0 {
             break;
         }
-        s = after(s, &buffer[..n]);
+        s = after(output, s, &buffer[..n]).map_err(Failure::Output)?;
     }
-    let last = answered(s);
-    if !last.written {
-        os::fail(b"root_by_hand: standard output");
-    }
+    answered(output, s).map_err(Failure::Output)?;
+    Ok(())
 }
 
-fn main() {
-    if os::arg_count() > 1 {
-        usage();
-        return;
+fn main(rt: HostRuntime) -> io::Result<()> {
+    if has_argument(&rt) {
+        return usage(&rt);
     }
-    read_all();
+    match read_all(&mut rt.stdin(), &mut rt.stdout()) {
+        Ok(()) => Ok(()),
+        Err(failure) => eprintln!(rt; "root_by_hand: {failure}"),
+    }
 }

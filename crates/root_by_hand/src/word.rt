@@ -1,13 +1,12 @@
 // Words of hexadecimal digits, character by character.
 
 // How far the input is read: the digits of the word that is being read and how many characters it has, 9 where it is no
-// pattern; how many words have ended; and whether all of them could be answered.
+// pattern; and how many words have ended.
 #[derive(Clone, Copy)]
 pub(crate) struct Reading {
     pub bits: u32,
     pub length: u32,
     pub words: u32,
-    pub written: bool,
 }
 
 // The value of a hexadecimal digit, and 16 for any other character.
@@ -30,7 +29,6 @@ fn with_word(s: Reading, bits: u32, length: u32) -> Reading {
         bits,
         length,
         words: s.words,
-        written: s.written,
     }
 }
 

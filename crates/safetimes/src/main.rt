@@ -4,91 +4,66 @@
 
 #![tactic(auto)]
 
-ghost use Rattle.std.specs.Prelude.{◌+◌, ◌≤◌, length};
-ghost use Rattle.io.specs.Counts.{IsPrefixLen};
+ghost use Rattle.std.specs.Prelude.{◌+◌, ◌≤◌, length, IfOk};
+ghost use Rattle.std.specs.Io.{ReadsAtMost};
 
-use libc::{STDERR_FILENO, STDIN_FILENO, STDOUT_FILENO};
+use std::env::{Env, FillError};
+use std::io;
+use std::io::{Read, Write};
 
-// What a read gave: how many bytes, or that it failed.
-#[derive(Clone, Copy)]
-struct Got {
-    failed: bool,
-    count: usize,
-}
-
-// Reads once, into the buffer from byte `at` on.
-fn read_on(buffer: &mut [u8], at: usize) -> Got
+// Reads once, into the buffer from byte `at` on; how many bytes.
+fn read_on(input: &mut impl Read, buffer: &mut [u8], at: usize) -> io::Result<usize>
     requires { at ≤ length buffer.old }
-    ensures { at + result.count ≤ length buffer.old }
+    ensures { IfOk result (λ count. at + count ≤ length buffer.old) }
 {
-    let got = libc::read(STDIN_FILENO, &mut buffer[at..]);
-    if got < 0 {
-        return Got {
-            failed: true,
-            count: 0,
-        };
-    }
-    Got {
-        failed: false,
-        count: io::count(got, &buffer[at..]),
-    }
+    input.read(&mut buffer[at..])
 }
 
-// Reads until the input ends, a read fails or the buffer is full.
-fn read_all(buffer: &mut [u8]) -> Got
-    ensures { IsPrefixLen result.count buffer.new }
+// Reads until the input ends, a read fails or the buffer is full; how many bytes.
+fn read_all(input: &mut impl Read, buffer: &mut [u8]) -> io::Result<usize>
+    ensures { ReadsAtMost result buffer.new }
 {
     let mut at = 0;
     while at < buffer.len() {
-        let got = read_on(buffer, at);
-        if got.failed {
-            return Got {
-                failed: true,
-                count: 0,
-            };
+        let count = read_on(input, buffer, at)?;
+        if count == 0 {
+            return Ok(at);
         }
-        if got.count == 0 {
-            return Got {
-                failed: false,
-                count: at,
-            };
-        }
-        at += got.count;
+        at += count;
     }
-    Got {
-        failed: false,
-        count: at,
-    }
+    Ok(at)
 }
 
-fn usage() {
-    io::write_all(
-        STDERR_FILENO,
-        b"usage: safetimes < FILE\nReads a scene file and writes the safe time of each of its pairs.\n",
-    );
+// Whether a word follows the program's name.
+fn has_argument(rt: &impl Env) -> bool {
+    !matches!(rt.arg(1, &mut []), Err(FillError::NotPresent))
+}
+
+fn usage(rt: &impl Eprint) -> io::Result<()> {
+    eprint!(rt;
+        "usage: safetimes < FILE\nReads a scene file and writes the safe time of each of its pairs.\n"
+    )
 }
 
 // Lists the scene that these bytes are.
-fn list(bytes: &[u8]) {
-    let mut text = io::large_buffer();
+fn list(output: &mut impl Write, bytes: &[u8]) -> io::Result<()> {
+    let mut text = [0u8; 65536];
     let n = listing::listing(bytes, &mut text);
-    if !io::write_all(STDOUT_FILENO, &text[..n]) {
-        os::fail(b"safetimes: standard output");
-    }
+    output.write_all(&text[..n])
 }
 
 // The buffer is longer than any scene file, so that a file that fills it is refused for its length.
-fn main() {
-    if os::arg_count() > 1 {
-        usage();
-        return;
+fn main(rt: HostRuntime) -> io::Result<()> {
+    if has_argument(&rt) {
+        return usage(&rt);
     }
-    let mut buffer = io::large_buffer();
-    let got = read_all(&mut buffer);
-    if got.failed {
-        os::fail(b"safetimes: standard input");
-        return;
+    let mut buffer = [0u8; 65536];
+    let n = match read_all(&mut rt.stdin(), &mut buffer) {
+        Ok(n) => n,
+        Err(error) => return eprintln!(rt; "safetimes: standard input: {error}"),
+    };
+    match list(&mut rt.stdout(), &buffer[..n]) {
+        Ok(()) => Ok(()),
+        Err(error) => eprintln!(rt; "safetimes: standard output: {error}"),
     }
-    let n = got.count;
-    list(&buffer[..n]);
 }

@@ -7,10 +7,13 @@
 
 ghost use Rattle.std.specs.Prelude.{◌+◌, ◌*◌, ◌≤◌, ◌<◌, length};
 ghost use Rattle.io.specs.Counts.{IsPrefixLen};
+ghost use Rattle.std.specs.Io.{ReadsAtMost};
 
 use number::answer::Answered;
 use number::pattern::{bits_of, float_of};
 use number::root;
+use std::io;
+use std::io::{Read, Write};
 
 #[derive(Clone, Copy)]
 struct Reply {
@@ -75,18 +78,38 @@ fn answer_all(input: &[u8], output: &mut [u8]) -> usize
     j
 }
 
-// One block of patterns; whether there may be more.
-fn turn() -> bool {
-    let mut input = io::buffer();
-    let n = io::read_full(libc::STDIN_FILENO, &mut input);
-    let mut output = [0u8; 5120];
-    let m = answer_all(&input[..n], &mut output);
-    io::write_all(libc::STDOUT_FILENO, &output[..m]) & (n == 4096)
+// Reads until the block is full or the input ends; how many bytes.
+fn read_block(input: &mut impl Read, block: &mut [u8]) -> io::Result<usize>
+    ensures { ReadsAtMost result block.new }
+{
+    let mut at = 0;
+    while at < block.len() {
+        let n = input.read(&mut block[at..])?;
+        if n == 0 {
+            return Ok(at);
+        }
+        at += n;
+    }
+    Ok(at)
 }
 
-fn main() {
-    let mut turns = u64::MAX;
-    while turns > 0 && turn() {
-        turns -= 1;
+// One block of patterns; whether there may be more.
+fn turn(from: &mut impl Read, to: &mut impl Write) -> io::Result<bool> {
+    let mut input = [0u8; 4096];
+    let n = read_block(from, &mut input)?;
+    let mut output = [0u8; 5120];
+    let m = answer_all(&input[..n], &mut output);
+    to.write_all(&output[..m])?;
+    Ok(n == 4096)
+}
+
+fn main(rt: HostRuntime) -> io::Result<()> {
+    let mut from = rt.stdin();
+    let mut to = rt.stdout();
+    for _ in 0..u64::MAX {
+        if !turn(&mut from, &mut to)? {
+            break;
+        }
     }
+    Ok(())
 }
