@@ -9,105 +9,80 @@
 mod cases;
 mod otherwise;
 mod text;
+mod values;
 
 use admission::Limits;
+use std::io;
+use values::{ABOVE_BOUND, ABOVE_ONE, BOUND, infinity, lone, many, nan};
 
-// The bound on coordinates, 2^20, and the next number above it.
-const BOUND: f32 = 1048576.0;
-
-const ABOVE_BOUND: f32 = 1048576.125;
-// The next number above 1.
-const ABOVE_ONE: f32 = 1.0000001;
-
-// Four points with one number, and four of many.
-fn lone(a: f32) -> [[f32; 3]; 4] {
-    [
-        [0.0, 0.0, 0.0],
-        [0.0, a, 0.0],
-        [0.0, 0.0, 0.0],
-        [0.0, 0.0, 0.0],
-    ]
-}
-
-fn many() -> [[f32; 3]; 4] {
-    [
-        [0.5, -1.25, 3.0],
-        [2.0, 0.75, -0.125],
-        [-4.0, 1.5, 0.0],
-        [1.0, 6.0, -2.5],
-    ]
-}
-
-fn nan() -> f32 {
-    0.0 / 0.0
-}
-
-fn infinity() -> f32 {
-    1.0 / 0.0
-}
-
-fn scaling() {
+fn scaling(rt: &impl Print) -> io::Result<()> {
     let zero = lone(0.0);
-    cases::scaled(b"all zero", zero, zero, 1.0);
-    cases::scaled(b"entry 3f7d70a4", lone(0.99), zero, 1.0);
-    cases::scaled(b"entry 3dfd70a4", lone(0.12375), zero, 1.0);
-    cases::scaled(b"entry above that", lone(0.12375002), zero, 1.0);
-    cases::scaled(b"entry below that", lone(0.12374999), zero, 1.0);
-    cases::scaled(b"many", many(), many(), 0.5);
-    cases::scaled(b"moving", lone(0.001), many(), 1.0);
-    cases::scaled(b"43 times", lone(1.0e-38), lone(-3.0e-39), 0.0);
-    cases::scaled(b"no factor", lone(1.0e-45), zero, 1.0);
-    cases::scaled(b"too large", lone(1.0e-37), lone(BOUND), 0.0);
-    cases::scaled(b"largest", lone(-BOUND), many(), 1.0);
-    cases::scaled(b"above the largest", lone(ABOVE_BOUND), many(), 1.0);
-    cases::scaled(b"nan", lone(nan()), many(), 1.0);
-    cases::scaled(b"infinity", many(), lone(infinity()), 1.0);
-    cases::scaled(b"time minus zero", many(), many(), -0.0);
-    cases::scaled(b"time above one", many(), many(), ABOVE_ONE);
-    cases::scaled(b"nan, time above one", lone(nan()), many(), ABOVE_ONE);
+    cases::scaled(rt, "all zero", zero, zero, 1.0)?;
+    cases::scaled(rt, "entry 3f7d70a4", lone(0.99), zero, 1.0)?;
+    cases::scaled(rt, "entry 3dfd70a4", lone(0.12375), zero, 1.0)?;
+    cases::scaled(rt, "entry above that", lone(0.12375002), zero, 1.0)?;
+    cases::scaled(rt, "entry below that", lone(0.12374999), zero, 1.0)?;
+    cases::scaled(rt, "many", many(), many(), 0.5)?;
+    cases::scaled(rt, "moving", lone(0.001), many(), 1.0)?;
+    cases::scaled(rt, "43 times", lone(1.0e-38), lone(-3.0e-39), 0.0)?;
+    cases::scaled(rt, "no factor", lone(1.0e-45), zero, 1.0)?;
+    cases::scaled(rt, "too large", lone(1.0e-37), lone(BOUND), 0.0)?;
+    cases::scaled(rt, "largest", lone(-BOUND), many(), 1.0)?;
+    cases::scaled(rt, "above the largest", lone(ABOVE_BOUND), many(), 1.0)?;
+    cases::scaled(rt, "nan", lone(nan()), many(), 1.0)?;
+    cases::scaled(rt, "infinity", many(), lone(infinity()), 1.0)?;
+    cases::scaled(rt, "time minus zero", many(), many(), -0.0)?;
+    cases::scaled(rt, "time above one", many(), many(), ABOVE_ONE)?;
+    cases::scaled(rt, "nan, time above one", lone(nan()), many(), ABOVE_ONE)
 }
 
-fn measures() {
-    cases::measured(b"edges", many(), 2);
-    cases::measured(b"face", many(), 3);
-    cases::measured(b"split 4", many(), 4);
-    cases::measured(b"split 1, nan", lone(nan()), 1);
-    cases::measured(b"edges, above the largest", lone(-ABOVE_BOUND), 2);
-    cases::measured(b"face, largest", lone(BOUND), 3);
-    cases::measured(b"face, smallest", lone(1.0e-45), 3);
-    cases::measured(b"edges, 2^-60", lone(8.673617379884035e-19), 2);
-    cases::measured(b"edges, below 2^-60", lone(8.6736168e-19), 2);
+fn measures(rt: &impl Print) -> io::Result<()> {
+    cases::measured(rt, "edges", many(), 2)?;
+    cases::measured(rt, "face", many(), 3)?;
+    cases::measured(rt, "split 4", many(), 4)?;
+    cases::measured(rt, "split 1, nan", lone(nan()), 1)?;
+    cases::measured(rt, "edges, above the largest", lone(-ABOVE_BOUND), 2)?;
+    cases::measured(rt, "face, largest", lone(BOUND), 3)?;
+    cases::measured(rt, "face, smallest", lone(1.0e-45), 3)?;
+    cases::measured(rt, "edges, 2^-60", lone(8.673617379884035e-19), 2)?;
+    cases::measured(rt, "edges, below 2^-60", lone(8.6736168e-19), 2)
 }
 
-fn calls() {
-    cases::placed(b"place", [1.0, 2.0, 3.0], [-2.0, 4.0, 3.0], 0.25);
+fn places(rt: &impl Print) -> io::Result<()> {
+    cases::placed(rt, "place", [1.0, 2.0, 3.0], [-2.0, 4.0, 3.0], 0.25)?;
     cases::placed(
-        b"place, ratio above one",
+        rt,
+        "place, ratio above one",
         [1.0, 2.0, 3.0],
         [-2.0, 4.0, 3.0],
         ABOVE_ONE,
-    );
+    )?;
     cases::placed(
-        b"place, infinity",
+        rt,
+        "place, infinity",
         [1.0, 2.0, infinity()],
         [-2.0, 4.0, 3.0],
         2.0,
-    );
-    cases::moved(b"moved", many(), lone(-2.0), 0.75, lone(7.0));
+    )
+}
+
+fn moves(rt: &impl Print) -> io::Result<()> {
+    cases::moved(rt, "moved", many(), lone(-2.0), 0.75, lone(7.0))?;
     cases::moved(
-        b"moved, time below zero",
+        rt,
+        "moved, time below zero",
         many(),
         lone(-2.0),
         -0.75,
         lone(7.0),
-    );
-    cases::moved(b"moved, nan", many(), lone(nan()), 0.75, lone(7.0));
-    cases::centred(b"centred", many());
-    cases::centred(b"centred, above the largest", lone(ABOVE_BOUND));
-    cases::centred(b"centred, infinity", lone(infinity()));
-    cases::times(b"times", many(), BOUND);
-    cases::times(b"times, factor below zero", many(), -1.0);
-    cases::times(b"times, nan", many(), nan());
+    )?;
+    cases::moved(rt, "moved, nan", many(), lone(nan()), 0.75, lone(7.0))?;
+    cases::centred(rt, "centred", many())?;
+    cases::centred(rt, "centred, above the largest", lone(ABOVE_BOUND))?;
+    cases::centred(rt, "centred, infinity", lone(infinity()))?;
+    cases::times(rt, "times", many(), BOUND)?;
+    cases::times(rt, "times, factor below zero", many(), -1.0)?;
+    cases::times(rt, "times, nan", many(), nan())
 }
 
 // max_t and u_max as given, offset 0 and clearance 1.
@@ -120,31 +95,54 @@ fn limits(max_t: f32, u_max: f32) -> Limits {
     }
 }
 
-fn admissions() {
-    cases::admitted(b"max_t 1", many(), 2, limits(1.0, 1.0));
-    cases::admitted(b"max_t above 1", many(), 2, limits(ABOVE_ONE, 1.0));
+// The ends of the range of u_max, and the next numbers beyond.
+fn speeds(rt: &impl Print) -> io::Result<()> {
     cases::admitted(
-        b"u_max 2^-60",
+        rt,
+        "u_max 2^-60",
         many(),
         3,
         limits(1.0, 8.673617379884035e-19),
-    );
-    cases::admitted(b"u_max below 2^-60", many(), 3, limits(1.0, 8.6736168e-19));
-    cases::admitted(b"u_max 2^60", many(), 3, limits(0.0, 1.152921504606847e18));
-    cases::admitted(b"u_max above 2^60", many(), 3, limits(0.0, 1.1529217e18));
-    cases::admitted(b"split 4", many(), 4, limits(1.0, 1.0));
-    cases::admitted(b"split 4, nan", many(), 4, limits(nan(), 1.0));
-    cases::allowed(b"allowance 0", many(), 2, limits(1.0, 1.0), 0);
-    cases::allowed(b"allowance 1", many(), 2, limits(1.0, 1.0), 1);
-    cases::allowed(b"allowance 4096", many(), 2, limits(1.0, 1.0), 4096);
-    cases::allowed(b"allowance 4097", many(), 2, limits(1.0, 1.0), 4097);
-    cases::allowed(b"allowance 0, nan", many(), 2, limits(nan(), 1.0), 0);
+    )?;
+    cases::admitted(
+        rt,
+        "u_max below 2^-60",
+        many(),
+        3,
+        limits(1.0, 8.6736168e-19),
+    )?;
+    cases::admitted(
+        rt,
+        "u_max 2^60",
+        many(),
+        3,
+        limits(0.0, 1.152921504606847e18),
+    )?;
+    cases::admitted(rt, "u_max above 2^60", many(), 3, limits(0.0, 1.1529217e18))
 }
 
-fn main() {
-    scaling();
-    measures();
-    calls();
-    admissions();
-    otherwise::written(many(), nan(), infinity());
+fn admissions(rt: &impl Print) -> io::Result<()> {
+    cases::admitted(rt, "max_t 1", many(), 2, limits(1.0, 1.0))?;
+    cases::admitted(rt, "max_t above 1", many(), 2, limits(ABOVE_ONE, 1.0))?;
+    speeds(rt)?;
+    cases::admitted(rt, "split 4", many(), 4, limits(1.0, 1.0))?;
+    cases::admitted(rt, "split 4, nan", many(), 4, limits(nan(), 1.0))
+}
+
+fn allowances(rt: &impl Print) -> io::Result<()> {
+    cases::allowed(rt, "allowance 0", many(), 2, limits(1.0, 1.0), 0)?;
+    cases::allowed(rt, "allowance 1", many(), 2, limits(1.0, 1.0), 1)?;
+    cases::allowed(rt, "allowance 4096", many(), 2, limits(1.0, 1.0), 4096)?;
+    cases::allowed(rt, "allowance 4097", many(), 2, limits(1.0, 1.0), 4097)?;
+    cases::allowed(rt, "allowance 0, nan", many(), 2, limits(nan(), 1.0), 0)
+}
+
+fn main(rt: HostRuntime) -> io::Result<()> {
+    scaling(&rt)?;
+    measures(&rt)?;
+    places(&rt)?;
+    moves(&rt)?;
+    admissions(&rt)?;
+    allowances(&rt)?;
+    otherwise::written(&rt, many(), nan(), infinity())
 }

@@ -1,50 +1,49 @@
 // What the test writes: words, and numbers as the eight hex digits of their bits.
-use libc::STDOUT_FILENO;
+use std::io;
 
-pub(crate) fn text(s: &[u8]) {
-    io::write_all(STDOUT_FILENO, s);
+pub(crate) fn text(rt: &impl Print, s: &str) -> io::Result<()> {
+    rt.print(s)
 }
 
 // A space and eight hex digits.
-pub(crate) fn word(n: u32) {
-    text(b" ");
-    io::print_hex(STDOUT_FILENO, n as u64, 8);
+pub(crate) fn word(rt: &impl Print, n: u32) -> io::Result<()> {
+    print!(rt; " {n:08x}")
 }
 
 // A NaN has no bits that can be read here.
-pub(crate) fn number(x: f32) {
+pub(crate) fn number(rt: &impl Print, x: f32) -> io::Result<()> {
     if x != x {
-        text(b" nan");
+        text(rt, " nan")
     } else {
-        word(f32::to_bits(x));
+        word(rt, f32::to_bits(x))
     }
 }
 
-pub(crate) fn point(v: [f32; 3]) {
-    number(v[0]);
-    number(v[1]);
-    number(v[2]);
+pub(crate) fn point(rt: &impl Print, v: [f32; 3]) -> io::Result<()> {
+    number(rt, v[0])?;
+    number(rt, v[1])?;
+    number(rt, v[2])
 }
 
 // Four points, on a line of their own.
-pub(crate) fn points(x: [[f32; 3]; 4]) {
-    text(b"\n ");
+pub(crate) fn points(rt: &impl Print, x: [[f32; 3]; 4]) -> io::Result<()> {
+    text(rt, "\n ")?;
     let a = x[0];
     let b = x[1];
     let c = x[2];
     let d = x[3];
-    point(a);
-    point(b);
-    point(c);
-    point(d);
+    point(rt, a)?;
+    point(rt, b)?;
+    point(rt, c)?;
+    point(rt, d)
 }
 
 // A refusal number, 0 where there is none.
-pub(crate) fn refusal(n: u32) {
-    text(b" refusal");
-    word(n);
+pub(crate) fn refusal(rt: &impl Print, n: u32) -> io::Result<()> {
+    text(rt, " refusal")?;
+    word(rt, n)
 }
 
-pub(crate) fn end() {
-    text(b"\n");
+pub(crate) fn end(rt: &impl Print) -> io::Result<()> {
+    text(rt, "\n")
 }

@@ -9,8 +9,10 @@ mod line;
 mod quadratics;
 mod refused_cubics;
 
-fn main() {
-    quadratics::all();
-    refused_cubics::all();
-    cubics::all();
+use std::io;
+
+fn main(rt: HostRuntime) -> io::Result<()> {
+    quadratics::all(&rt)?;
+    refused_cubics::all(&rt)?;
+    cubics::all(&rt)
 }

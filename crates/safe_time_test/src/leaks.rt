@@ -1,8 +1,9 @@
 // What is not promised: pairs that pass through in exact arithmetic (docs/GUARANTEES.md, "Pairs that pass through").
 use crate::line::walked;
 use crate::pairs;
+use std::io;
 
-fn near_parallel_edges() {
+fn near_parallel_edges(rt: &impl Print) -> io::Result<()> {
     let x = [
         [-0.5, 0.0, 0.0],
         [0.5, 0.0, 0.0],
@@ -11,15 +12,16 @@ fn near_parallel_edges() {
     ];
     let limits = pairs::limits(0.0, 3.0517578e-5, 1.0, 1.0);
     walked(
-        b"passes through, near-parallel edges",
+        rt,
+        "passes through, near-parallel edges",
         x,
         pairs::raised(0.0, -1.0),
         2,
         limits,
-    );
+    )
 }
 
-fn coarse_coordinates() {
+fn coarse_coordinates(rt: &impl Print) -> io::Result<()> {
     let x = [
         [524288.0, 524288.0, 524288.0],
         [524296.0, 524288.0, 524288.0],
@@ -28,15 +30,16 @@ fn coarse_coordinates() {
     ];
     let limits = pairs::limits(0.06, 0.001, 1.0, 0.25);
     walked(
-        b"passes through, coarse coordinates",
+        rt,
+        "passes through, coarse coordinates",
         x,
         pairs::vertex_raised(-0.25),
         3,
         limits,
-    );
+    )
 }
 
-fn det_underflows() {
+fn det_underflows(rt: &impl Print) -> io::Result<()> {
     let x = [
         [-9.094947e-13, 0.0, 0.0],
         [9.094947e-13, 0.0, 0.0],
@@ -45,16 +48,17 @@ fn det_underflows() {
     ];
     let limits = pairs::limits(0.0, 2.2737368e-13, 1.0, 3.637979e-12);
     walked(
-        b"passes through, det underflows",
+        rt,
+        "passes through, det underflows",
         x,
         pairs::raised(0.0, -3.637979e-12),
         2,
         limits,
-    );
+    )
 }
 
-pub(crate) fn all() {
-    near_parallel_edges();
-    coarse_coordinates();
-    det_underflows();
+pub(crate) fn all(rt: &impl Print) -> io::Result<()> {
+    near_parallel_edges(rt)?;
+    coarse_coordinates(rt)?;
+    det_underflows(rt)
 }

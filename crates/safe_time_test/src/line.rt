@@ -2,83 +2,85 @@
 use admission::Limits;
 use ccd3::safe_time::{maximum_safe_time_accurate, maximum_safe_time_allowing};
 use ccd3::{Answer, SafeTime};
-use libc::STDOUT_FILENO;
+use std::io;
 
-fn text(s: &[u8]) {
-    io::write_all(STDOUT_FILENO, s);
+fn text(rt: &impl Print, s: &str) -> io::Result<()> {
+    rt.print(s)
 }
 
 // A space and a count.
-fn count(n: u32) {
-    text(b" ");
-    io::print_decimal(STDOUT_FILENO, n as u64);
+fn count(rt: &impl Print, n: u32) -> io::Result<()> {
+    print!(rt; " {n}")
 }
 
 // Eight hex digits.
-fn hex(n: u32) {
-    io::print_hex(STDOUT_FILENO, n as u64, 8);
+fn hex(rt: &impl Print, n: u32) -> io::Result<()> {
+    print!(rt; "{n:08x}")
 }
 
 // A space and the bits of a number.
-fn number(x: f32) {
-    text(b" ");
+fn number(rt: &impl Print, x: f32) -> io::Result<()> {
+    text(rt, " ")?;
     if x != x {
-        text(b"nan");
+        text(rt, "nan")
     } else {
-        hex(f32::to_bits(x));
+        hex(rt, f32::to_bits(x))
     }
 }
 
-fn timed(kind: &[u8], t: f32) {
-    text(kind);
-    number(t);
+fn timed(rt: &impl Print, kind: &str, t: f32) -> io::Result<()> {
+    text(rt, kind)?;
+    number(rt, t)
 }
 
-fn answer(a: Answer) {
+fn answer(rt: &impl Print, a: Answer) -> io::Result<()> {
     match a {
-        Answer::Touching(t) => timed(b"touching", t),
-        Answer::Contact(t) => timed(b"contact", t),
-        Answer::Clear(t) => timed(b"clear", t),
-        Answer::Budget(t) => timed(b"budget", t),
+        Answer::Touching(t) => timed(rt, "touching", t),
+        Answer::Contact(t) => timed(rt, "contact", t),
+        Answer::Clear(t) => timed(rt, "clear", t),
+        Answer::Budget(t) => timed(rt, "budget", t),
         Answer::Refused(n) => {
-            text(b"refused");
-            count(n);
+            text(rt, "refused")?;
+            count(rt, n)
         }
     }
 }
 
 // The line of a pair: its name, how it ends with the time, the probes and the halvings.
-fn told(name: &[u8], r: SafeTime) {
-    text(name);
-    text(b": ");
+fn told(rt: &impl Print, name: &str, r: SafeTime) -> io::Result<()> {
+    text(rt, name)?;
+    text(rt, ": ")?;
     let a = r.answer;
-    answer(a);
-    count(r.probes);
-    count(r.halvings);
-    text(b"\n");
+    answer(rt, a)?;
+    count(rt, r.probes)?;
+    count(rt, r.halvings)?;
+    text(rt, "\n")
 }
 
 pub(crate) fn walked(
-    name: &[u8],
+    rt: &impl Print,
+    name: &str,
     x: [[f32; 3]; 4],
     dx: [[f32; 3]; 4],
     split: usize,
     limits: Limits,
-) {
-    told(name, maximum_safe_time_accurate(x, dx, split, limits));
+) -> io::Result<()> {
+    told(rt, name, maximum_safe_time_accurate(x, dx, split, limits))
 }
 
 // With so many probes allowed.
 pub(crate) fn allowing(
-    name: &[u8],
+    rt: &impl Print,
+    name: &str,
     x: [[f32; 3]; 4],
     dx: [[f32; 3]; 4],
     split: usize,
     limits: Limits,
     allowance: u32,
-) {
+) -> io::Result<()> {
     told(
+        rt,
         name,
         maximum_safe_time_allowing(x, dx, split, limits, allowance),
-    );
+    )
 }

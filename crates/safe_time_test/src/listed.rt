@@ -1,8 +1,9 @@
 // The four pairs of the listing (docs/01-scope.md, "The listing").
 use crate::line::walked;
 use crate::pairs;
+use std::io;
 
-fn a_shared_corner() {
+fn a_shared_corner(rt: &impl Print) -> io::Result<()> {
     let x = [
         [0.0, 0.0, 0.0],
         [0.0, 0.0, 4.0],
@@ -16,39 +17,42 @@ fn a_shared_corner() {
         [0.0, 0.0, -4.0],
     ];
     walked(
-        b"a shared corner",
+        rt,
+        "a shared corner",
         x,
         dx,
         2,
         pairs::limits(0.0, 1.0, 1.0, 4.0),
-    );
+    )
 }
 
-fn edges_part() {
+fn edges_part(rt: &impl Print) -> io::Result<()> {
     let limits = pairs::limits(0.0, 1.0, 1.0, 4.0);
     walked(
-        b"edges part",
+        rt,
+        "edges part",
         pairs::strips(4.0, 9.0),
         pairs::raised(-4.0, 0.0),
         2,
         limits,
-    );
+    )
 }
 
-fn nothing_moves() {
+fn nothing_moves(rt: &impl Print) -> io::Result<()> {
     let limits = pairs::limits(0.0, 1.0, 1.0, 0.0);
     walked(
-        b"nothing moves",
+        rt,
+        "nothing moves",
         pairs::strips(0.0, 9.0),
         pairs::raised(0.0, 0.0),
         2,
         limits,
-    );
+    )
 }
 
-pub(crate) fn all() {
-    pairs::strips_meet(b"edges meet", pairs::limits(0.0, 1.0, 1.0, 4.0));
-    a_shared_corner();
-    edges_part();
-    nothing_moves();
+pub(crate) fn all(rt: &impl Print) -> io::Result<()> {
+    pairs::strips_meet(rt, "edges meet", pairs::limits(0.0, 1.0, 1.0, 4.0))?;
+    a_shared_corner(rt)?;
+    edges_part(rt)?;
+    nothing_moves(rt)
 }

@@ -14,12 +14,14 @@ mod rare;
 mod refused;
 mod starts;
 
-fn main() {
-    listed::all();
-    rare::all();
-    leaks::all();
-    ranges::all();
-    starts::all();
-    refused::all();
-    allowances::all();
+use std::io;
+
+fn main(rt: HostRuntime) -> io::Result<()> {
+    listed::all(&rt)?;
+    rare::all(&rt)?;
+    leaks::all(&rt)?;
+    ranges::all(&rt)?;
+    starts::all(&rt)?;
+    refused::all(&rt)?;
+    allowances::all(&rt)
 }

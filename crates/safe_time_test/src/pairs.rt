@@ -1,6 +1,7 @@
 // Points, displacements and limits that several lines have in common.
 use crate::line::walked;
 use admission::Limits;
+use std::io;
 
 // Two edges one unit long, the first at height `a`, the second at height `b`.
 pub(crate) fn strips(a: f32, b: f32) -> [[f32; 3]; 4] {
@@ -42,6 +43,6 @@ pub(crate) fn limits(offset: f32, clearance: f32, max_t: f32, u_max: f32) -> Lim
 }
 
 // A strip at height 4 that comes down by 4 upon one at height 0.
-pub(crate) fn strips_meet(name: &[u8], limits: Limits) {
-    walked(name, strips(0.0, 4.0), raised(0.0, -4.0), 2, limits);
+pub(crate) fn strips_meet(rt: &impl Print, name: &str, limits: Limits) -> io::Result<()> {
+    walked(rt, name, strips(0.0, 4.0), raised(0.0, -4.0), 2, limits)
 }

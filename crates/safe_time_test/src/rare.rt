@@ -2,6 +2,7 @@
 use crate::line::{allowing, walked};
 use crate::pairs;
 use admission::Limits;
+use std::io;
 
 // Edges at a right angle that come together slowly.
 fn slow_points() -> [[f32; 3]; 4] {
@@ -22,33 +23,34 @@ fn slow_limits() -> Limits {
     pairs::limits(0.0, 4.907129e-8, 1.0, 0.0010722749)
 }
 
-fn slow_edges(name: &[u8], limits: Limits) {
-    walked(name, slow_points(), slow_moves(), 2, limits);
+fn slow_edges(rt: &impl Print, name: &str, limits: Limits) -> io::Result<()> {
+    walked(rt, name, slow_points(), slow_moves(), 2, limits)
 }
 
-pub(crate) fn slow_edges_allowing(name: &[u8], allowance: u32) {
+pub(crate) fn slow_edges_allowing(rt: &impl Print, name: &str, allowance: u32) -> io::Result<()> {
     allowing(
+        rt,
         name,
         slow_points(),
         slow_moves(),
         2,
         slow_limits(),
         allowance,
-    );
+    )
 }
 
 // The same of a face and a vertex.
-fn slow_face(name: &[u8], limits: Limits) {
+fn slow_face(rt: &impl Print, name: &str, limits: Limits) -> io::Result<()> {
     let x = [
         [0.0, 0.0, 0.0],
         [4.7683716e-7, 0.0, 0.0],
         [0.0, 4.7683716e-7, 0.0],
         [1.1920929e-7, 1.1920929e-7, 2.701114e-7],
     ];
-    walked(name, x, pairs::vertex_raised(-5.402228e-7), 3, limits);
+    walked(rt, name, x, pairs::vertex_raised(-5.402228e-7), 3, limits)
 }
 
-fn contact_at_time_0() {
+fn contact_at_time_0(rt: &impl Print) -> io::Result<()> {
     let x = [
         [1.0e-45, 0.0, 0.0],
         [1.0205786, 0.0, 0.0],
@@ -56,10 +58,17 @@ fn contact_at_time_0() {
         [0.0, 0.65815854, 0.019244552],
     ];
     let limits = pairs::limits(0.0, 0.4388621, 1.0, 0.94499624);
-    walked(b"contact at time 0", x, pairs::slid(-0.94499624), 2, limits);
+    walked(
+        rt,
+        "contact at time 0",
+        x,
+        pairs::slid(-0.94499624),
+        2,
+        limits,
+    )
 }
 
-fn contact_with_150_halvings() {
+fn contact_with_150_halvings(rt: &impl Print) -> io::Result<()> {
     let x = [
         [3.0e-45, 0.0, 0.0],
         [1.8937769, 0.0, 0.0],
@@ -68,15 +77,16 @@ fn contact_with_150_halvings() {
     ];
     let limits = pairs::limits(0.0, 0.9443298, 1.0, 0.74016404);
     walked(
-        b"contact with 150 halvings",
+        rt,
+        "contact with 150 halvings",
         x,
         pairs::slid(-0.74016404),
         2,
         limits,
-    );
+    )
 }
 
-fn zero_steps() {
+fn zero_steps(rt: &impl Print) -> io::Result<()> {
     let x = [
         [0.0, 0.0, 0.0],
         [1.0, 0.0, 0.0],
@@ -84,29 +94,33 @@ fn zero_steps() {
         [1.0, 0.0003, 1.0],
     ];
     walked(
-        b"zero steps",
+        rt,
+        "zero steps",
         x,
         pairs::raised(0.0, -0.5),
         2,
         pairs::limits(1.0, 0.0, 1.0, 0.5),
-    );
+    )
 }
 
-pub(crate) fn all() {
-    slow_edges(b"slow edges, contact at the last probe", slow_limits());
+pub(crate) fn all(rt: &impl Print) -> io::Result<()> {
+    slow_edges(rt, "slow edges, contact at the last probe", slow_limits())?;
     slow_edges(
-        b"slow edges, clear after the last probe",
+        rt,
+        "slow edges, clear after the last probe",
         pairs::limits(0.0, 4.907129e-8, 0.40623862, 0.0012867299),
-    );
+    )?;
     slow_face(
-        b"slow face, contact at the last probe",
+        rt,
+        "slow face, contact at the last probe",
         pairs::limits(0.0, 2.5622551e-8, 1.0, 0.00073786423),
-    );
+    )?;
     slow_face(
-        b"slow face, clear after the last probe",
+        rt,
+        "slow face, clear after the last probe",
         pairs::limits(0.0, 2.5622551e-8, 0.43718186, 0.0008854371),
-    );
-    contact_at_time_0();
-    contact_with_150_halvings();
-    zero_steps();
+    )?;
+    contact_at_time_0(rt)?;
+    contact_with_150_halvings(rt)?;
+    zero_steps(rt)
 }

@@ -2,23 +2,24 @@
 use crate::line::walked;
 use crate::pairs;
 use admission::Limits;
+use std::io;
 
 fn common() -> Limits {
     pairs::limits(0.0, 1.0, 1.0, 4.0)
 }
 
 // The strips that meet, with one number of a displacement.
-fn displaced(name: &[u8], number: f32, limits: Limits) {
+fn displaced(rt: &impl Print, name: &str, number: f32, limits: Limits) -> io::Result<()> {
     let dx = [
         [0.0, 0.0, 0.0],
         [0.0, 0.0, 0.0],
         [0.0, 0.0, number],
         [0.0, 0.0, -4.0],
     ];
-    walked(name, pairs::strips(0.0, 4.0), dx, 2, limits);
+    walked(rt, name, pairs::strips(0.0, 4.0), dx, 2, limits)
 }
 
-fn a_coordinate_above_2_20() {
+fn a_coordinate_above_2_20(rt: &impl Print) -> io::Result<()> {
     let x = [
         [0.0, 0.0, 0.0],
         [1.0, 0.0, 0.0],
@@ -26,24 +27,26 @@ fn a_coordinate_above_2_20() {
         [1.0, 0.0, 4.0],
     ];
     walked(
-        b"a coordinate above 2^20",
+        rt,
+        "a coordinate above 2^20",
         x,
         pairs::raised(0.0, -4.0),
         2,
         common(),
-    );
+    )
 }
 
-pub(crate) fn all() {
+pub(crate) fn all(rt: &impl Print) -> io::Result<()> {
     // a NaN is told before a time limit that is out of range
-    displaced(b"a NaN", 0.0 / 0.0, pairs::limits(0.0, 1.0, 2.0, 4.0));
-    displaced(b"an infinity", 1.0 / 0.0, common());
-    a_coordinate_above_2_20();
+    displaced(rt, "a NaN", 0.0 / 0.0, pairs::limits(0.0, 1.0, 2.0, 4.0))?;
+    displaced(rt, "an infinity", 1.0 / 0.0, common())?;
+    a_coordinate_above_2_20(rt)?;
     walked(
-        b"split 4",
+        rt,
+        "split 4",
         pairs::strips(0.0, 4.0),
         pairs::raised(0.0, -4.0),
         4,
         common(),
-    );
+    )
 }
