@@ -213,7 +213,8 @@ def hold_definitions():
 
 
 def hold_laws():
-    bodies = {path: USE.sub("", text) for path, text in PROOFS.items()}
+    # the fields of an invariant are cited by what the check finds alone, too
+    bodies = {path: USE.sub("", text) for path, text in PROOFS.items() if path.name != "Invariants.antt"}
     counts = sum((words(body) for body in bodies.values()), Counter())
     counts.update(name for text in PROOFS.values() for name in re.findall(rf"({WORD}+) as ", text))
     for path, body in bodies.items():

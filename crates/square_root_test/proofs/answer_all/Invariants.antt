@@ -5,7 +5,7 @@ use Rattle.square_root_test.proofs.answer_all.Given as goal
 abbrev pub invariant-loop-i : goal.invariant-loop-i
 invariant-loop-i l = record {
   within : l.i ≤ length l.input;
-  five-for-four : 4 * l.j ≡ 5 * l.i;
+  five_for_four : 4 * l.j ≡ 5 * l.i;
   kept : length l.output ≡ length l.initial.output;
 }
 
