@@ -160,8 +160,10 @@ def contract_of(function, text):
     """What a function's contract says, without the fields that it reads."""
     head = text[function.start():].split("{\n", 1)[0]
     said = re.search(r"\b(?:requires|ensures)\b.*", head, re.S)
+    # without the names of the clauses
+    said = re.sub(r"\b(?:requires|ensures)(?: \w+)? {", " ", said[0]) if said else ""
     # a module's name begins with a capital, a value's with a small letter
-    return re.sub(r"(\b[a-z_]\w*|\))(?:\.\w+)+", r"\1", said[0]) if said else ""
+    return re.sub(r"(\b[a-z_]\w*|\))(?:\.\w+)+", r"\1", said)
 
 
 def reached_from(contracts, waiting):
@@ -224,8 +226,10 @@ def hold_laws():
             is_goal = name.endswith("_spec") or re.search(r": (?:goal|tie)\.", law[0] + body[law.end():law.end() + 9])
             if not is_goal and counts[name] <= words(text)[name] and f"`{name}`" not in STATEMENTS:
                 fault(name_of(path), f"nothing cites {name}")
-    there = counts + sum((words(text) for text in [*SOURCES.values(), *SPECS.values()]), Counter())
+    there = counts + sum((words(text) for text in SPECS.values()), Counter())
+    there.update(function["name"] for text in SOURCES.values() for function in FUNCTION.finditer(text))
     there.update(edit.stem for edit in CRATES.glob("*/must-fail/*.edit"))
+    there.update(folder.name for folder in CRATES.iterdir())
     for name in re.findall(r"`([a-z]+(?:_[a-z]+)+)`", STATEMENTS):
         if not there[name]:
             fault("docs/STATEMENTS.md", f"there is no {name}")

@@ -1,8 +1,8 @@
 // What travels together (docs/01-scope.md, "What callers hand over, and the numbers allowed"): a pair's numbers.
 ghost use Rattle.std.specs.Prelude.{◌≡◌};
 
-// Four points of three numbers each, and as many displacements. Code that the borrow checker covers moves it whole:
-// its parts are read and put together by the three functions below.
+// Four points of three numbers each, and as many displacements. Its parts are read and put together by the three functions
+// below.
 #[repr(C)]
 #[derive(Clone, Copy)]
 pub struct Pair {
