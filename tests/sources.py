@@ -6,7 +6,7 @@
   a function in STATEMENTS.md names edits of that kind, and each edit stands there.
 - README.md lists each file of definitions with its number of lines, and their sums.
 - Each definition of specs/ is reached from a public contract or from a theorem that STATEMENTS.md lists, or stands in
-  Inner.antt and is reached from another contract; each law of proofs/ is cited, or stands in STATEMENTS.md, whose laws
+  Inner.antt and is reached from another contract; each law of proofs/ is cited, or stands in STATEMENTS.md, whose names
   are there; each function is called; each import is used.
 - docs/CONTRIBUTING.md lists each file of laws, proofs/NAME.antt, once, and has each library crate in its drawing.
 - What follows from the table of the stream of calls, tests/calls.txt, stands as that has it (tests/calls_written.py).
