@@ -23,19 +23,14 @@ impl Roots {
 
     // One root more, in the next place; a full answer stands.
     #[tactic(auto, unfolding(crate::specs::Roots::push))]
-    pub(crate) fn push(self, r: f32) -> Roots
+    pub(crate) fn push(mut self, r: f32) -> Roots
         ensures { result ≡ Def.push self r }
     {
-        let n = self.count;
-        if 3 <= n {
-            return self;
+        if self.count < 3 {
+            self.roots[self.count as usize] = written(r);
+            self.count += 1;
         }
-        let mut roots = self.roots;
-        roots[n as usize] = written(r);
-        Roots {
-            count: n + 1,
-            roots,
-        }
+        self
     }
 
     // With what one more span gave.

@@ -5,8 +5,8 @@ ghost use Rattle.number.specs.Number.{zero32};
 ghost use Rattle.polynomial_root.specs.Roots as Def;
 
 use crate::answer::Roots;
-use crate::cubic::Cubic;
 use crate::quadratic::solve;
+use crate::search::Search;
 use number::order::{clamp, size};
 use number::refusal::Refusal;
 
@@ -61,18 +61,22 @@ fn kept_roots(t: f32, solved: Option<(f32, f32)>) -> Roots
     }
 }
 
-// By degree, where c3 counts as zero.
-#[tactic(auto, unfolding(crate::specs::Roots::lower_roots))]
-pub(crate) fn lower_roots(p: Cubic, t: f32) -> Result<Roots, Refusal>
-    ensures { result ≡ Def.lower_roots p t }
-{
-    if vanishes(p.c2) {
-        if vanishes(p.c1) {
-            Ok(constant_roots(p.c0))
+impl Search {
+    // By degree, where c3 counts as zero.
+    #[tactic(auto, unfolding(crate::specs::Roots::lower_roots))]
+    pub(crate) fn lower_roots(self) -> Result<Roots, Refusal>
+        ensures { result ≡ Def.lower_roots self.p self.t }
+    {
+        let p = self.p;
+        let t = self.t;
+        if vanishes(p.c2) {
+            if vanishes(p.c1) {
+                Ok(constant_roots(p.c0))
+            } else {
+                linear_roots(t, p.c0, p.value_at(t))
+            }
         } else {
-            linear_roots(t, p.c0, p.value_at(t))
+            Ok(kept_roots(t, solve(p.c0, p.c1, p.c2)))
         }
-    } else {
-        Ok(kept_roots(t, solve(p.c0, p.c1, p.c2)))
     }
 }

@@ -11,11 +11,7 @@ use number::root::root;
 fn in_order(a: f32, b: f32) -> (f32, f32)
     ensures { result ≡ Def.in_order a b }
 {
-    if a < b {
-        (a, b)
-    } else {
-        (b, a)
-    }
+    if a < b { (a, b) } else { (b, a) }
 }
 
 // The sign of c1 as a factor; a zero's is plus.

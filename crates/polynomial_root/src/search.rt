@@ -5,7 +5,7 @@ ghost use Rattle.polynomial_root.specs.Roots as Def;
 
 use crate::answer::Roots;
 use crate::cubic::Cubic;
-use crate::lower::{lower_roots, vanishes};
+use crate::lower::vanishes;
 use crate::quadratic::solve;
 use number::order::{larger, smaller};
 use number::refusal::Refusal;
@@ -49,7 +49,7 @@ impl Search {
     {
         let p = self.p;
         if vanishes(p.c3) {
-            lower_roots(p, self.t)
+            self.lower_roots()
         } else {
             self.span_roots(solve(p.c1, 2.0 * p.c2, 3.0 * p.c3))
         }

@@ -37,21 +37,18 @@ impl Search {
     pub(crate) fn span_root(self, a: End, b: End) -> Result<Option<f32>, Refusal>
         ensures { result ≡ Def.span_root self.p self.t self.epsilon a b }
     {
-        let fa = a.f;
-        let fb = b.f;
+        let End { x: xa, f: fa } = a;
+        let End { x: xb, f: fb } = b;
         if ((fa < 0.0) & (fb < 0.0)) | ((0.0 < fa) & (0.0 < fb)) {
             return Ok(None);
         }
-        let xa = a.x;
-        let xb = b.x;
         if xa == xb {
-            return Ok(if fa == 0.0 { Some(xa) } else { None });
+            return Ok((fa == 0.0).then_some(xa));
         }
         if (fa == 0.0) & (fb == 0.0) {
             return Err(Refusal::ZeroAtBothEnds);
         }
-        let root = self.started((fa * xb - fb * xa) / (fa - fb))?;
-        Ok(Some(root))
+        self.started((fa * xb - fb * xa) / (fa - fb)).map(Some)
     }
 
     // The root in a part of 0..t, where the part is there.

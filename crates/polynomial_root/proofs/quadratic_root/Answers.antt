@@ -1,5 +1,5 @@
 -- `quadratic_root` answers what its definition says, and so what `Promised` says of that.
-use Rattle.std.proofs.Common.{rules, ◌≡◌, Ok, Err, sym, ap, ◌∙◌}
+use Rattle.std.proofs.Common.{rules, ◌≡◌, Ok, Err, sym, ◌∙◌}
 use Rattle.number.specs.Number.{numbered}
 use Rattle.polynomial_root.specs.Roots.{quadratic_root}
 use Rattle.polynomial_root.proofs.Admitted.{goes_in, stays_out}
