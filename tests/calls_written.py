@@ -56,34 +56,25 @@ def rattle(functions):
     )
 
 
-READ = {"number": 1, "word": 1, "split": 1, "point": 3, "points": 12}
-WRITTEN = {"put": 1, "put_number": 1, "put_point": 3, "put_points": 12}
+# how many words each field has that a method of `words.rt` reads or writes
+READ = {"number": [1], "word": [1], "split": [1], "point": [3], "points": [12]}
+WRITTEN = {"word": [1], "number": [1], "answered": [1, 1], "point": [3], "points": [12]}
 
 
-def read(name, bodies):
-    """The places of the call that a function of `answers` reads, itself or by another that it hands the call to."""
-    found = {(int(at), 4 * READ[word]) for word, at in re.findall(r"words::(\w+)\(call, (\d+)\)", bodies[name])}
-    for other in re.findall(r"\b(\w+)\(call\)", bodies[name]):
-        found |= read(other, bodies)
-    return found
-
-
-def written(name, bodies):
-    """The places that a function of `answers` writes, itself or by another that it hands its run to."""
-    found = set()
-    for put, at in re.findall(r"\b(\w+)\(\s*(?:out|s),(?:\s*(\d+),)?", bodies[name]):
-        if put in WRITTEN and at:
-            found.add((int(at), 4 * WRITTEN[put]))
-        elif put in bodies:
-            found |= written(put, bodies)
+def sizes_of(name, bodies, lent, words):
+    """How many words each field has that a function of `answers` reads from the call, or writes to the answer, which it is
+    lent: itself or by another that it hands it to."""
+    found = []
+    for method, other in re.findall(rf"\b{lent}\.(\w+)\(|\b(\w+)\(\s*{lent}[,)]", bodies[name]):
+        found += words[method] if method else sizes_of(other, bodies, lent, words)
     return found
 
 
 def rattle_faults(functions):
-    """Each function of `answers` reads the fields of its call and writes those of its answer, each as it is."""
+    """Each function of `answers` reads the fields of its call and writes those of its answer, in their order."""
     sources = {path.name: path.read_text() for path in SIZES.parent.glob("*.rt")}
     text = "\n".join(sources.values())
-    bodies = {head[1]: head[0] for head in re.finditer(r"^(?:pub\(crate\) )?fn (\w+)\(.*?^\}", text, re.M | re.S)}
+    bodies = dict(re.findall(r"^(?:pub\(crate\) )?fn (\w+)\([^{]*(\{.*?^\})", text, re.M | re.S))
     arms = dict(re.findall(r"^ *(\d+) => \w+::(\w+)\(call, out\),$", sources["calls.rt"], re.M))
     for f in functions:
         if arms.pop(str(f.number), None) != f.name:
@@ -91,9 +82,9 @@ def rattle_faults(functions):
         elif f.name not in bodies:
             yield f"crates/answers/src: there is no function {f.name}"
         else:
-            if read(f.name, bodies) != {(4 + 4 * x.at, 4 * x.words) for x in f.call}:
+            if sizes_of(f.name, bodies, "call", READ) != [field.words for field in f.call]:
                 yield f"crates/answers/src: {f.name} does not read the fields of its call"
-            if written(f.name, bodies) != {(4 * x.at, 4 * x.words) for x in f.answer}:
+            if sizes_of(f.name, bodies, "out", WRITTEN) != [field.words for field in f.answer]:
                 yield f"crates/answers/src: {f.name} does not write the fields of its answer"
     for number in arms:
         yield f"crates/answers/src/calls.rt: there is no function {number}"

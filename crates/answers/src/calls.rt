@@ -1,8 +1,9 @@
-// One call of each public function, by its number (tests/calls.txt): the arguments are taken out of the bytes of the
-// call, and the answer is put into the bytes of the answer, which are zeros until then.
+// One call of each public function, by its number (tests/calls.txt): the arguments are read from the call, and the
+// answer's words, which are zeros until then, are written. A `match` is the plainest table: each arm names its function.
+use crate::words::{Answer, Call};
 use crate::{points, roots, safe_time, scaling};
 
-pub(crate) fn answer(function: u32, call: &[u8], out: &mut [u8]) {
+pub(crate) fn answer(function: u32, call: &mut Call, out: &mut Answer) {
     match function {
         1 => roots::square_root(call, out),
         2 => points::lerp(call, out),

@@ -5,7 +5,6 @@
 #![tactic(auto)]
 
 ghost use Rattle.io.specs.Counts.{IsPrefixLen};
-ghost use Rattle.std.specs.Io.{ReadsAtMost};
 
 mod calls;
 mod points;
@@ -15,59 +14,43 @@ mod scaling;
 mod sizes;
 mod words;
 
+use crate::words::{Answer, Call};
+use program_io::read_full;
 use std::io;
 use std::io::{Read, Write};
 
-// Answers the calls of one block, and says how many bytes the answers take. The calls end with the block, or at a word
-// that is no function's number.
+// How many bytes a block of calls has, and its answers at most.
+const BLOCK: usize = 65536;
+
+// Answers the calls of one block, and says how many bytes the answers take. The calls end with the block, at a word that
+// is no function's number, or where there is no room for an answer.
 fn answer_block(block: &[u8], out: &mut [u8]) -> usize
     ensures { IsPrefixLen result out.new }
 {
-    let mut at = 0;
+    let mut calls = block;
     let mut to = 0;
-    while at < words::BLOCK {
-        if block.len() <= at {
-            return to;
-        }
-        let call = &block[at..];
-        let function = words::word(call, 0);
+    while let Some((word, arguments)) = calls.split_first_chunk() {
+        let function = u32::from_le_bytes(*word);
         let size = sizes::of_answer(function);
-        if size == 0 {
-            return to;
+        if size == 0 || out.len() - to < size {
+            break;
         }
-        if out.len() - to < size {
-            return to;
-        }
-        calls::answer(function, call, &mut out[to..]);
-        at += sizes::of_call(function);
+        let mut answer = Answer::of(&mut out[to..to + size]);
+        calls::answer(function, &mut Call::of(arguments), &mut answer);
+        calls = calls.get(sizes::of_call(function)..).unwrap_or(&[]);
         to += size;
     }
     to
 }
 
-// Reads until the block is full or the input ends; how many bytes.
-fn read_block(input: &mut impl Read, block: &mut [u8]) -> io::Result<usize>
-    ensures { ReadsAtMost result block.new }
-{
-    let mut at = 0;
-    while at < block.len() {
-        let n = input.read(&mut block[at..])?;
-        if n == 0 {
-            return Ok(at);
-        }
-        at += n;
-    }
-    Ok(at)
-}
-
 // Reads a block and writes its answers. Says whether to go on.
 fn answer_some(input: &mut impl Read, output: &mut impl Write) -> io::Result<bool> {
-    let mut block = [0u8; words::BLOCK];
-    let n = read_block(input, &mut block)?;
+    let mut block = [0u8; BLOCK];
+    let n = read_full(input, &mut block)?;
     if n == 0 {
         return Ok(false);
     }
-    let mut out = [0u8; words::BLOCK];
+    let mut out = [0u8; BLOCK];
     let m = answer_block(&block[..n], &mut out);
     output.write_all(&out[..m])?;
     Ok(true)

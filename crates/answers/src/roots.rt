@@ -1,43 +1,42 @@
 // Calls of the square root and of the root finders.
-use crate::words;
+use crate::words::{Answer, Call};
 use motion::coplanar;
 use number::root;
 use polynomial_root::answer::Roots;
 
-pub(crate) fn square_root(call: &[u8], out: &mut [u8]) {
-    words::put_answered(out, root::square_root(words::number(call, 4)));
+pub(crate) fn square_root(call: &mut Call, out: &mut Answer) {
+    out.answered(root::square_root(call.number()));
 }
 
-fn put_roots(out: &mut [u8], answer: Roots) {
-    let roots = answer.roots;
-    words::put(out, 0, answer.refusal);
-    words::put(out, 4, answer.count);
-    words::put_point(out, 8, roots);
+fn put_roots(out: &mut Answer, answer: Roots) {
+    out.word(answer.refusal);
+    out.word(answer.count);
+    out.point(answer.roots);
 }
 
-pub(crate) fn quadratic_root(call: &[u8], out: &mut [u8]) {
-    let c0 = words::number(call, 4);
-    let c1 = words::number(call, 8);
-    let c2 = words::number(call, 12);
+pub(crate) fn quadratic_root(call: &mut Call, out: &mut Answer) {
+    let c0 = call.number();
+    let c1 = call.number();
+    let c2 = call.number();
     put_roots(out, polynomial_root::quadratic_root(c0, c1, c2));
 }
 
-pub(crate) fn cubic_roots_in_range_zero_to_t(call: &[u8], out: &mut [u8]) {
-    let c0 = words::number(call, 4);
-    let c1 = words::number(call, 8);
-    let c2 = words::number(call, 12);
-    let c3 = words::number(call, 16);
-    let t = words::number(call, 20);
-    let epsilon = words::number(call, 24);
+pub(crate) fn cubic_roots_in_range_zero_to_t(call: &mut Call, out: &mut Answer) {
+    let c0 = call.number();
+    let c1 = call.number();
+    let c2 = call.number();
+    let c3 = call.number();
+    let t = call.number();
+    let epsilon = call.number();
     put_roots(
         out,
         polynomial_root::cubic_roots_in_range_zero_to_t(c0, c1, c2, c3, t, epsilon),
     );
 }
 
-pub(crate) fn coplanar_time_mat3x4(call: &[u8], out: &mut [u8]) {
+pub(crate) fn coplanar_time_mat3x4(call: &mut Call, out: &mut Answer) {
     put_roots(
         out,
-        coplanar::coplanar_time_mat3x4(words::points(call, 4), words::points(call, 52)),
+        coplanar::coplanar_time_mat3x4(call.points(), call.points()),
     );
 }

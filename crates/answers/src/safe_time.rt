@@ -1,62 +1,54 @@
 // Calls of the safe time.
-use crate::words;
+use crate::words::{self, Call};
 use admission::Limits;
-use ccd3::{Answer, SafeTime, safe_time};
+use ccd3::safe_time;
 
-// The kind and the time, or the refusal.
-fn put_answer(out: &mut [u8], answer: Answer) {
+// The words of an answer: the refusal, 0 for none; the kind; the time, 0 where it is refused.
+fn told(answer: ccd3::Answer) -> (u32, u32, f32) {
     match answer {
-        Answer::Touching(time) => put_time(out, 0, time),
-        Answer::Contact(time) => put_time(out, 1, time),
-        Answer::Clear(time) => put_time(out, 2, time),
-        Answer::Budget(time) => put_time(out, 3, time),
-        Answer::Refused(refusal) => put_refusal(out, refusal),
+        ccd3::Answer::Touching(time) => (0, 0, time),
+        ccd3::Answer::Contact(time) => (0, 1, time),
+        ccd3::Answer::Clear(time) => (0, 2, time),
+        ccd3::Answer::Budget(time) => (0, 3, time),
+        ccd3::Answer::Refused(refusal) => (refusal, 4, 0.0),
     }
 }
 
-fn put_time(out: &mut [u8], kind: u32, time: f32) {
-    words::put(out, 4, kind);
-    words::put_number(out, 8, time);
+fn put_safe_time(out: &mut words::Answer, safe: ccd3::SafeTime) {
+    let (refusal, kind, time) = told(safe.answer);
+    out.word(refusal);
+    out.word(kind);
+    out.number(time);
+    out.word(safe.probes);
+    out.word(safe.halvings);
 }
 
-fn put_refusal(out: &mut [u8], refusal: u32) {
-    words::put(out, 0, refusal);
-    words::put(out, 4, 4);
-}
-
-fn put_safe_time(out: &mut [u8], safe: SafeTime) {
-    let answer = safe.answer;
-    put_answer(out, answer);
-    words::put(out, 12, safe.probes);
-    words::put(out, 16, safe.halvings);
-}
-
-fn limits(call: &[u8]) -> Limits {
+fn limits(call: &mut Call) -> Limits {
     Limits {
-        offset: words::number(call, 104),
-        clearance: words::number(call, 108),
-        max_t: words::number(call, 112),
-        u_max: words::number(call, 116),
+        offset: call.number(),
+        clearance: call.number(),
+        max_t: call.number(),
+        u_max: call.number(),
     }
 }
 
-pub(crate) fn maximum_safe_time_accurate(call: &[u8], out: &mut [u8]) {
+pub(crate) fn maximum_safe_time_accurate(call: &mut Call, out: &mut words::Answer) {
     let safe = safe_time::maximum_safe_time_accurate(
-        words::points(call, 4),
-        words::points(call, 52),
-        words::split(call, 100),
+        call.points(),
+        call.points(),
+        call.split(),
         limits(call),
     );
     put_safe_time(out, safe);
 }
 
-pub(crate) fn maximum_safe_time_allowing(call: &[u8], out: &mut [u8]) {
+pub(crate) fn maximum_safe_time_allowing(call: &mut Call, out: &mut words::Answer) {
     let safe = safe_time::maximum_safe_time_allowing(
-        words::points(call, 4),
-        words::points(call, 52),
-        words::split(call, 100),
+        call.points(),
+        call.points(),
+        call.split(),
         limits(call),
-        words::word(call, 120),
+        call.word(),
     );
     put_safe_time(out, safe);
 }

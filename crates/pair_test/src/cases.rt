@@ -1,5 +1,5 @@
 // One line for a call: its name, its answer, and what lies there afterwards where something was lent.
-use super::text;
+use crate::shown::{Number, Point, Points, Refused};
 use admission::{FULL_ALLOWANCE, Limits};
 use motion::{record, scaling};
 use number::answer::Answered;
@@ -9,11 +9,8 @@ use std::io;
 // A value by its name, or a refusal.
 fn answered(rt: &impl Print, name: &str, answer: Answered) -> io::Result<()> {
     match answer {
-        Answered::Value(x) => {
-            text::text(rt, name)?;
-            text::number(rt, x)
-        }
-        Answered::Refused(n) => text::refusal(rt, n),
+        Answered::Value(x) => print!(rt; " {name}{}", Number(x)),
+        Answered::Refused(n) => print!(rt; "{}", Refused(n)),
     }
 }
 
@@ -25,14 +22,15 @@ pub(crate) fn scaled(
     dx: [[f32; 3]; 4],
     max_t: f32,
 ) -> io::Result<()> {
-    text::text(rt, name)?;
-    let s = scaling::after_scaling(record::pair_of(x, dx), max_t);
-    let answer = s.answer;
-    answered(rt, " factor", answer)?;
-    let p = s.pair;
-    text::points(rt, record::x_of(p))?;
-    text::points(rt, record::dx_of(p))?;
-    text::end(rt)
+    let scaled = scaling::after_scaling(record::pair_of(x, dx), max_t);
+    print!(rt; "{name}")?;
+    answered(rt, "factor", scaled.answer)?;
+    let left = scaled.pair;
+    println!(rt;
+        "{}{}",
+        Points(record::x_of(left)),
+        Points(record::dx_of(left))
+    )
 }
 
 // The norm and the distance of points by a split.
@@ -42,15 +40,16 @@ pub(crate) fn measured(
     x: [[f32; 3]; 4],
     split: usize,
 ) -> io::Result<()> {
-    text::text(rt, name)?;
-    answered(rt, " norm", norm::max_relative_norm(x, split))?;
-    let d = separation::squared_distance(x, split);
-    text::refusal(rt, d.refusal)?;
-    text::number(rt, d.squared)?;
-    let w = d.direction;
-    text::point(rt, w)?;
-    text::word(rt, d.candidate)?;
-    text::end(rt)
+    print!(rt; "{name}")?;
+    answered(rt, "norm", norm::max_relative_norm(x, split))?;
+    let nearest = separation::squared_distance(x, split);
+    let candidate = nearest.candidate;
+    println!(rt;
+        "{}{}{} {candidate:08x}",
+        Refused(nearest.refusal),
+        Number(nearest.squared),
+        Point(nearest.direction)
+    )
 }
 
 // A place along a segment.
@@ -61,12 +60,8 @@ pub(crate) fn placed(
     p1: [f32; 3],
     ratio: f32,
 ) -> io::Result<()> {
-    text::text(rt, name)?;
-    let r = points::lerp(p0, p1, ratio);
-    text::refusal(rt, r.refusal)?;
-    let p = r.point;
-    text::point(rt, p)?;
-    text::end(rt)
+    let placed = points::lerp(p0, p1, ratio);
+    println!(rt; "{name}{}{}", Refused(placed.refusal), Point(placed.point))
 }
 
 // Points moved into lent ones; lent points centred and scaled.
@@ -78,27 +73,21 @@ pub(crate) fn moved(
     t: f32,
     lent: [[f32; 3]; 4],
 ) -> io::Result<()> {
-    text::text(rt, name)?;
     let mut x = lent;
-    text::refusal(rt, points::add_scaled(x0, dx, t, &mut x))?;
-    text::points(rt, x)?;
-    text::end(rt)
+    let refusal = points::add_scaled(x0, dx, t, &mut x);
+    println!(rt; "{name}{}{}", Refused(refusal), Points(x))
 }
 
 pub(crate) fn centred(rt: &impl Print, name: &str, lent: [[f32; 3]; 4]) -> io::Result<()> {
-    text::text(rt, name)?;
     let mut x = lent;
-    text::refusal(rt, points::centerize(&mut x))?;
-    text::points(rt, x)?;
-    text::end(rt)
+    let refusal = points::centerize(&mut x);
+    println!(rt; "{name}{}{}", Refused(refusal), Points(x))
 }
 
 pub(crate) fn times(rt: &impl Print, name: &str, lent: [[f32; 3]; 4], s: f32) -> io::Result<()> {
-    text::text(rt, name)?;
     let mut x = lent;
-    text::refusal(rt, points::scale_in_place(&mut x, s))?;
-    text::points(rt, x)?;
-    text::end(rt)
+    let refusal = points::scale_in_place(&mut x, s);
+    println!(rt; "{name}{}{}", Refused(refusal), Points(x))
 }
 
 // The admission of a safe time.
@@ -121,7 +110,6 @@ pub(crate) fn allowed(
     limits: Limits,
     allowance: u32,
 ) -> io::Result<()> {
-    text::text(rt, name)?;
-    text::refusal(rt, admission::admit_walk(x, x, split, limits, allowance))?;
-    text::end(rt)
+    let refusal = admission::admit_walk(x, x, split, limits, allowance);
+    println!(rt; "{name}{}", Refused(refusal))
 }

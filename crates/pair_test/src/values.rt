@@ -7,7 +7,15 @@ pub(crate) const ABOVE_BOUND: f32 = 1048576.125;
 // The next number above 1.
 pub(crate) const ABOVE_ONE: f32 = 1.0000001;
 
-// Four points with one number, and four of many.
+// Four points of many numbers.
+pub(crate) const MANY: [[f32; 3]; 4] = [
+    [0.5, -1.25, 3.0],
+    [2.0, 0.75, -0.125],
+    [-4.0, 1.5, 0.0],
+    [1.0, 6.0, -2.5],
+];
+
+// Four points with one number.
 pub(crate) fn lone(a: f32) -> [[f32; 3]; 4] {
     [
         [0.0, 0.0, 0.0],
@@ -15,21 +23,4 @@ pub(crate) fn lone(a: f32) -> [[f32; 3]; 4] {
         [0.0, 0.0, 0.0],
         [0.0, 0.0, 0.0],
     ]
-}
-
-pub(crate) fn many() -> [[f32; 3]; 4] {
-    [
-        [0.5, -1.25, 3.0],
-        [2.0, 0.75, -0.125],
-        [-4.0, 1.5, 0.0],
-        [1.0, 6.0, -2.5],
-    ]
-}
-
-pub(crate) fn nan() -> f32 {
-    0.0 / 0.0
-}
-
-pub(crate) fn infinity() -> f32 {
-    1.0 / 0.0
 }

@@ -4,14 +4,13 @@
 
 #![tactic(auto)]
 
-mod failure;
 mod word;
 
-use crate::failure::Failure;
-use crate::word::{Reading, is_blank, longer};
+use crate::word::{Word, is_blank};
+use program_io::Failure;
 use std::env::{Env, FillError};
-use std::io;
 use std::io::{Read, Write};
+use std::{io, mem};
 
 fn write_sheet(output: &mut impl Write, bits: u32) -> io::Result<()> {
     let mut text = [0u8; 4096];
@@ -19,57 +18,49 @@ fn write_sheet(output: &mut impl Write, bits: u32) -> io::Result<()> {
     output.write_all(&text[..n])
 }
 
-fn write_refused(output: &mut impl Write, word: u32) -> io::Result<()> {
+fn write_refused(output: &mut impl Write, number: u32) -> io::Result<()> {
     writeln!(
         output,
-        "word {word} refused: a pattern has eight hexadecimal digits"
+        "word {number} refused: a pattern has eight hexadecimal digits"
     )
 }
 
-fn write_word(output: &mut impl Write, bits: u32, length: u32, word: u32) -> io::Result<()> {
-    if length == 8 {
-        write_sheet(output, bits)
-    } else {
-        write_refused(output, word)
-    }
+// How far the input is read: the word that is being read, and how many have ended.
+#[derive(Drop)]
+struct Reading {
+    word: Word,
+    ended: u32,
 }
 
-// Answers the word, where there is one.
-fn answered(output: &mut impl Write, s: Reading) -> io::Result<Reading> {
-    if s.length == 0 {
-        return Ok(s);
-    }
-    let mut words = s.words;
-    if words < 0xffff_ffff {
-        words += 1;
-    }
-    write_word(output, s.bits, s.length, words)?;
-    Ok(Reading {
-        bits: 0,
-        length: 0,
-        words,
-    })
-}
-
-fn wide(b: u8) -> u32 {
-    b as u32
-}
-
-// After these bytes.
-fn after(output: &mut impl Write, s: Reading, bytes: &[u8]) -> io::Result<Reading> {
-    let mut s = s;
-    for b in bytes {
-        let c = wide(*b);
-        if is_blank(c) {
-            s = answered(output, s)?;
-        } else {
-            s = longer(s, c);
+impl Reading {
+    // The word has ended: answers it, where there is one.
+    fn end(&mut self, output: &mut impl Write) -> io::Result<()> {
+        let word = mem::replace(&mut self.word, Word::EMPTY);
+        if let Word::Digits { count: 0, .. } = word {
+            return Ok(());
+        }
+        self.ended = self.ended.saturating_add(1);
+        match word {
+            Word::Digits { count: 8, bits } => write_sheet(output, bits),
+            _ => write_refused(output, self.ended),
         }
     }
-    Ok(s)
+
+    // Reads on.
+    fn read(&mut self, output: &mut impl Write, bytes: &[u8]) -> io::Result<()> {
+        for byte in bytes {
+            if is_blank(*byte) {
+                self.end(output)?;
+            } else {
+                self.word = self.word.longer(*byte);
+            }
+        }
+        Ok(())
+    }
 }
 
-// Whether a word follows the program's name.
+// Whether a word follows the program's name. It stands in each program that asks: no clause can say what the
+// environment has, and a library's function has one.
 fn has_argument(rt: &impl Env) -> bool {
     !matches!(rt.arg(1, &mut []), Err(FillError::NotPresent))
 }
@@ -80,23 +71,22 @@ fn usage(rt: &impl Eprint) -> io::Result<()> {
     )
 }
 
-// Reads to the end, a block at a time; the last word may end with the input.
+// Reads to the end, a block at a time; the last word may end with the input. A proved loop has to end, and nothing says
+// that the input does: the turns are of a number that no run uses up.
 fn read_all(input: &mut impl Read, output: &mut impl Write) -> Result<(), Failure> {
     let mut buffer = [0u8; 4096];
-    let mut s = Reading {
-        bits: 0,
-        length: 0,
-        words: 0,
+    let mut reading = Reading {
+        word: Word::EMPTY,
+        ended: 0,
     };
     for _ in 0..u64::MAX {
         let n = input.read(&mut buffer).map_err(Failure::Input)?;
         if n == 0 {
             break;
         }
-        s = after(output, s, &buffer[..n]).map_err(Failure::Output)?;
+        reading.read(output, &buffer[..n]).map_err(Failure::Output)?;
     }
-    answered(output, s).map_err(Failure::Output)?;
-    Ok(())
+    reading.end(output).map_err(Failure::Output)
 }
 
 fn main(rt: HostRuntime) -> io::Result<()> {

@@ -4,37 +4,13 @@
 
 #![tactic(auto)]
 
-ghost use Rattle.std.specs.Prelude.{◌+◌, ◌≤◌, length, IfOk};
-ghost use Rattle.std.specs.Io.{ReadsAtMost};
-
+use program_io::{Failure, read_full};
 use std::env::{Env, FillError};
 use std::io;
 use std::io::{Read, Write};
 
-// Reads once, into the buffer from byte `at` on; how many bytes.
-fn read_on(input: &mut impl Read, buffer: &mut [u8], at: usize) -> io::Result<usize>
-    requires { at ≤ length buffer.old }
-    ensures { IfOk result (λ count. at + count ≤ length buffer.old) }
-{
-    input.read(&mut buffer[at..])
-}
-
-// Reads until the input ends, a read fails or the buffer is full; how many bytes.
-fn read_all(input: &mut impl Read, buffer: &mut [u8]) -> io::Result<usize>
-    ensures { ReadsAtMost result buffer.new }
-{
-    let mut at = 0;
-    while at < buffer.len() {
-        let count = read_on(input, buffer, at)?;
-        if count == 0 {
-            return Ok(at);
-        }
-        at += count;
-    }
-    Ok(at)
-}
-
-// Whether a word follows the program's name.
+// Whether a word follows the program's name. It stands in each program that asks: no clause can say what the
+// environment has, and a library's function has one.
 fn has_argument(rt: &impl Env) -> bool {
     !matches!(rt.arg(1, &mut []), Err(FillError::NotPresent))
 }
@@ -52,18 +28,20 @@ fn list(output: &mut impl Write, bytes: &[u8]) -> io::Result<()> {
     output.write_all(&text[..n])
 }
 
-// The buffer is longer than any scene file, so that a file that fills it is refused for its length.
+// Reads a scene and lists it. The buffer is longer than any scene file, so that a file that fills it is refused for its
+// length.
+fn read_and_list(input: &mut impl Read, output: &mut impl Write) -> Result<(), Failure> {
+    let mut buffer = [0u8; 65536];
+    let n = read_full(input, &mut buffer).map_err(Failure::Input)?;
+    list(output, &buffer[..n]).map_err(Failure::Output)
+}
+
 fn main(rt: HostRuntime) -> io::Result<()> {
     if has_argument(&rt) {
         return usage(&rt);
     }
-    let mut buffer = [0u8; 65536];
-    let n = match read_all(&mut rt.stdin(), &mut buffer) {
-        Ok(n) => n,
-        Err(error) => return eprintln!(rt; "safetimes: standard input: {error}"),
-    };
-    match list(&mut rt.stdout(), &buffer[..n]) {
+    match read_and_list(&mut rt.stdin(), &mut rt.stdout()) {
         Ok(()) => Ok(()),
-        Err(error) => eprintln!(rt; "safetimes: standard output: {error}"),
+        Err(failure) => eprintln!(rt; "safetimes: {failure}"),
     }
 }

@@ -1,13 +1,12 @@
--- The answers stay within their run, whose length does not change; each turn takes at least one byte of the 65,536 that
--- are looked at.
-use Rattle.std.proofs.Common.{◌≡◌, ◌-◌, ◌≤◌, length}
+-- The answers stay within their run, whose length does not change; each turn takes at least one byte of the calls.
+use Rattle.std.proofs.Common.{◌≡◌, ◌≤◌, length}
 use Rattle.answers.proofs.answer_block.Given as goal
 
-abbrev pub invariant-loop-at : goal.invariant-loop-at
-invariant-loop-at l = record {
+abbrev pub invariant-loop-word : goal.invariant-loop-word
+invariant-loop-word l = record {
   within : l.to ≤ length l.out;
   kept : length l.out ≡ length l.initial.out;
 }
 
-abbrev pub decreases-loop-at : goal.decreases-loop-at
-decreases-loop-at l = 65536 - l.at
+abbrev pub decreases-loop-word : goal.decreases-loop-word
+decreases-loop-word l = length l.calls
