@@ -9,8 +9,10 @@ use lib.Ieee.{Float, binary32, lt, fits, of_bits}
 use lib.Ieee.Fits.{and_l, and_r, div-fits}
 use borrow.Author.Tests.{eqb-true, eqb-false}
 use Rattle.number.specs.Number.{zero32, is_finite, admitted}
-use Rattle.number.specs.declared.answer.Answered.{Answered}
-use Rattle.number.proofs.Answers.{taken, refused, clauses}
+use Rattle.std.specs.Prelude.{Result}
+use Rattle.number.specs.declared.refusal.Refusal.{Refusal}
+use Rattle.number.proofs.Answers.{taken, refused, clauses, Told, refusal_told}
+use Rattle.number.specs.Number.{number_of, numbered}
 use Rattle.admission.specs.Admission.{time_refusal}
 use Rattle.motion.specs.declared.record.Pair.{Pair}
 use Rattle.motion.specs.Motion.{max_entry, usable, most_eights, first_factor, factors_for, scaled_pair, finite_pair}

@@ -12,6 +12,7 @@ use polynomial_root::cubic::Cubic;
 use polynomial_root::cubic_roots_in_range_zero_to_t;
 
 // The volume spanned by three edges that move, as a cubic of the time.
+#[tactic(auto, unfolding(crate::specs::Motion::volume))]
 fn volume(
     x1: [f32; 3],
     x2: [f32; 3],
@@ -35,24 +36,17 @@ fn volume(
 }
 
 // The cubic of a pair: columns 1 to 3 as seen from column 0.
+#[tactic(auto, unfolding(crate::specs::Motion::motion_cubic))]
 fn motion_cubic(x: [[f32; 3]; 4], dx: [[f32; 3]; 4]) -> Cubic
     ensures { result ≡ Def.motion_cubic x dx }
 {
-    let x0 = x[0];
-    let x1 = x[1];
-    let x2 = x[2];
-    let x3 = x[3];
-    let d0 = dx[0];
-    let d1 = dx[1];
-    let d2 = dx[2];
-    let d3 = dx[3];
     volume(
-        sub(x1, x0),
-        sub(x2, x0),
-        sub(x3, x0),
-        sub(d1, d0),
-        sub(d2, d0),
-        sub(d3, d0),
+        sub(x[1], x[0]),
+        sub(x[2], x[0]),
+        sub(x[3], x[0]),
+        sub(dx[1], dx[0]),
+        sub(dx[2], dx[0]),
+        sub(dx[3], dx[0]),
     )
 }
 
