@@ -1,12 +1,12 @@
--- Folds over what a pair holds: the largest entry over its columns and over their places side by side, and the points
--- times 8 once for each factor. Each is the definition, which reads each place by its number. Assumes nothing.
-use Rattle.std.proofs.Common.{◌≡◌, ◌∙◌, ap, refl, ℕ, zero, suc, ◌+◌, List, [], map, length, get_or, Float}
+-- The largest entry, folded over the columns of points and displacements side by side, and over their places: each is
+-- its definition, which reads each place by its number. Assumes nothing.
+use Rattle.std.proofs.Common.{◌≡◌, ◌∙◌, ap, refl, ℕ, List, [], map, length, get_or, Float}
 use Rattle.std.specs.Float.{nan}
 use Rattle.std.specs.List.{fold, zip, range_with_len}
 use Rattle.std.proofs.lemmas.List.FromFn.{fill_by_all}
 use Rattle.number.specs.Number.{zero32}
-use Rattle.geometry.specs.Geometry.{count, scaled}
-use Rattle.motion.specs.Motion.{larger_entry, larger_column, max_entry, eight32, eightfold}
+use Rattle.geometry.specs.Geometry.{count}
+use Rattle.motion.specs.Motion.{larger_entry, larger_column, max_entry}
 
 -- what a list reads at each number below n
 read : {A : Type 0} → ℕ → A → List A → List A
@@ -38,12 +38,3 @@ pub entries_folded : (t : Float) (x dx : List (List Float)) → length x ≡ 4 �
     → fold (column_step t) zero32 (zip x dx) ≡ max_entry x dx t
 unfolding read max_entry count
 entries_folded t x dx h k = ap (fold (column_step t) zero32) (zip_read 4 [] x dx h k)
-
--- once more times 8
-abbrev pub eight_step : List (List Float) → ℕ → List (List Float)
-eight_step y k = scaled y eight32
-
-pub eights_folded : (n from : ℕ) (x : List (List Float)) → fold eight_step x (range_with_len from n) ≡ eightfold n x
-unfolding eightfold
-eights_folded zero from x = refl
-eights_folded (suc n) from x = eights_folded n (from + 1) (scaled x eight32)

@@ -1,6 +1,6 @@
 -- The outcome of a scaling, case by case, over what the calls of `motion::scaling::scaled_pair` give: by which test it
 -- is refused and by which number, and when it is not. Assumes nothing.
-use Rattle.std.proofs.Common.{◌≡◌, ◌∙◌, sym, ap, ℕ, true, false, Float, Result, Ok, Err, eq-eqb, ne_eqb, arith}
+use Rattle.std.proofs.Common.{◌≡◌, ◌∙◌, sym, ap, ℕ, true, false, Float, Ok, Err, eq-eqb, ne_eqb, arith}
 use Rattle.number.specs.Number.{numbered, answered}
 use Rattle.number.specs.declared.refusal.Refusal.{Refusal}
 use Rattle.number.specs.declared.refusal.Refusal.TheVariants.{NoFactor, ScaledNotFinite}

@@ -114,5 +114,5 @@ motion_cubic x dx =
     volume (edge x 1) (edge x 2) (edge x 3) (edge dx 1) (edge dx 2) (edge dx 3)
 
 -- the roots of that cubic in 0..1, with epsilon 0; a coefficient beyond the bound is refused by 2
-unfoldable pub coplanar_times : List (List Float) → List (List Float) → Roots
+unfoldable pub coplanar_times : List (List Float) → List (List Float) → Result Roots Refusal
 coplanar_times x dx = or_refused (motion_refusal x dx) (cubic_roots_in_range (motion_cubic x dx) one32 zero32)

@@ -1,13 +1,14 @@
 // The times at which the four points of a pair lie in one plane (ccd3.rs: `coplanar_time_mat3x4`; docs/01-scope.md,
 // "Roots").
-ghost use Rattle.std.specs.Prelude.{◌≡◌, ◌↔◌, not, ◌&&◌, T};
-ghost use Rattle.number.specs.Number.{one32};
+ghost use Rattle.std.specs.Prelude.{◌≡◌, ◌↔◌, not, ◌&&◌, T, IfOk};
+ghost use Rattle.number.specs.Number.{one32, refusal_of};
 ghost use Rattle.polynomial_root.specs.Roots.{Tidy, InRange};
 ghost use Rattle.admission.specs.Admission.{finite_points};
 ghost use Rattle.motion.specs.Motion as Def;
 
 use geometry::vec3::{scalar_triple_product, sub};
-use polynomial_root::answer::{Roots, refused};
+use number::refusal::Refusal;
+use polynomial_root::answer::Roots;
 use polynomial_root::cubic::Cubic;
 use polynomial_root::cubic_roots_in_range_zero_to_t;
 
@@ -52,17 +53,13 @@ fn motion_cubic(x: [[f32; 3]; 4], dx: [[f32; 3]; 4]) -> Cubic
 
 // The times from 0 to 1, in the order of the cubic's spans. Refusals 1, 2, 6, 7, 8; by 1 where, and only where, a
 // number handed over is not finite: the coefficients computed from admitted points are.
-pub fn coplanar_time_mat3x4(x0: [[f32; 3]; 4], dx: [[f32; 3]; 4]) -> Roots
+pub fn coplanar_time_mat3x4(x0: [[f32; 3]; 4], dx: [[f32; 3]; 4]) -> Result<Roots, Refusal>
     ensures answer { result ≡ Def.coplanar_times x0 dx }
-    ensures tidy { Tidy result }
-    ensures range { InRange one32 result }
-    ensures first { (result.refusal ≡ 1) ↔ T (not (finite_points x0 && finite_points dx)) }
+    ensures tidy { IfOk result Tidy }
+    ensures range { IfOk result (InRange one32) }
+    ensures first { (refusal_of result ≡ 1) ↔ T (not (finite_points x0 && finite_points dx)) }
 {
-    let refusal = admission::admit_motion(x0, dx);
-    if refusal == 0 {
-        let p = motion_cubic(x0, dx);
-        cubic_roots_in_range_zero_to_t(p.c0, p.c1, p.c2, p.c3, 1.0, 0.0)
-    } else {
-        refused(refusal)
-    }
+    admission::admit_motion(x0, dx)?;
+    let p = motion_cubic(x0, dx);
+    cubic_roots_in_range_zero_to_t(p.c0, p.c1, p.c2, p.c3, 1.0, 0.0)
 }

@@ -6,8 +6,8 @@ ghost use Rattle.motion.specs.Inner as Inner;
 
 use crate::factors::{self, Factors};
 use crate::record::Pair;
-use number::refusal::Refusal;
 use admission::points::points_finite;
+use number::refusal::Refusal;
 
 impl Pair {
     // The factor that brings the largest entry to 0.99.

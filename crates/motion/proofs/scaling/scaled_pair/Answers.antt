@@ -1,5 +1,5 @@
 -- Each way out is a case of the outcome.
-use Rattle.std.proofs.Common.{◌≡◌, true, rules, sym}
+use Rattle.std.proofs.Common.{rules, sym}
 use Rattle.std.proofs.lemmas.Result.{err_from_is_err_and}
 use Rattle.motion.specs.Motion.{usable}
 use Rattle.motion.proofs.Outcomes.{by_admission, by_use, by_size, by_none}

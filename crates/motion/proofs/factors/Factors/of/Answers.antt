@@ -1,7 +1,7 @@
 -- In a turn f is above 8, so that a factor of 8 may still be taken.
-use Rattle.std.proofs.Common.{sym, subst, Bool, not, T, arith, ◌<◌}
+use Rattle.std.proofs.Common.{sym, subst, Bool, not, T, arith}
 use Rattle.std.specs.Float.Ieee.{lt}
-use Rattle.motion.specs.Motion.{eight32, most_eights}
+use Rattle.motion.specs.Motion.{eight32}
 use Rattle.motion.proofs.Eighths.{left_start, left_more, left_next, turned_start, turned_next, turned_stop}
 use Rattle.motion.proofs.factors.Factors.of.Goals as goal
 

@@ -8,7 +8,7 @@ use Rattle.motion.proofs.factors.Factors.of.Given as goal
 abbrev pub invariant-loop-last : goal.invariant-loop-last
 invariant-loop-last l = record {
   left : Left l.eights l.last;
-  turned : Turned (factors_of l.f) l.eights l.last l.product
+  turned : Turned (factors_of l.f) l.eights l.last l.product;
 }
 
 abbrev pub decreases-loop-last : goal.decreases-loop-last
