@@ -19,22 +19,38 @@ pub struct Search {
 }
 
 impl Search {
-    // The parts before, between and behind the slope's roots; without any, 0..t is the one span. A refusal ends the
-    // search.
+    // The parts of 0..t before, between and behind the slope's roots, each where it is there.
+    #[tactic(auto, unfolding(crate::specs::Roots::span_roots, crate::specs::Roots::after))]
+    fn part_roots(self, e0: f32, e1: f32) -> Result<Roots, Refusal>
+        ensures { result ≡ Def.span_roots self.p self.t self.epsilon (Some (e0, e1)) }
+    {
+        let t = self.t;
+        let first = if 0.0 <= e0 {
+            self.span_root(self.start(), self.end_at(smaller(t, e0)))?
+        } else {
+            None
+        };
+        let middle = if (e0 <= t) & (0.0 <= e1) {
+            let from = self.end_at(larger(0.0, e0));
+            self.span_root(from, self.end_at(smaller(t, e1)))?
+        } else {
+            None
+        };
+        let last = if e1 <= t {
+            self.span_root(self.end_at(larger(0.0, e1)), self.end_at(t))?
+        } else {
+            None
+        };
+        Ok(Roots::none().joined(first).joined(middle).joined(last))
+    }
+
+    // Without roots of the slope 0..t is the one span.
     #[tactic(auto, unfolding(crate::specs::Roots::span_roots, crate::specs::Roots::after))]
     fn span_roots(self, slope: Option<(f32, f32)>) -> Result<Roots, Refusal>
         ensures { result ≡ Def.span_roots self.p self.t self.epsilon slope }
     {
         match slope {
-            Some((e0, e1)) => {
-                let t = self.t;
-                let first = self.part_root(0.0 <= e0, self.start(), self.end_at(smaller(t, e0)))?;
-                let from = self.end_at(larger(0.0, e0));
-                let there = (e0 <= t) & (0.0 <= e1);
-                let middle = self.part_root(there, from, self.end_at(smaller(t, e1)))?;
-                let last = self.part_root(e1 <= t, self.end_at(larger(0.0, e1)), self.end_at(t))?;
-                Ok(Roots::none().joined(first).joined(middle).joined(last))
-            }
+            Some((e0, e1)) => self.part_roots(e0, e1),
             None => {
                 let found = self.span_root(self.start(), self.end_at(self.t))?;
                 Ok(Roots::none().joined(found))

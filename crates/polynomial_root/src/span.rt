@@ -50,15 +50,4 @@ impl Search {
         }
         self.started((fa * xb - fb * xa) / (fa - fb)).map(Some)
     }
-
-    // The root in a part of 0..t, where the part is there.
-    pub(crate) fn part_root(self, there: bool, a: End, b: End) -> Result<Option<f32>, Refusal>
-        ensures { result ≡ Def.part_root self.p self.t self.epsilon there a b }
-    {
-        if there {
-            self.span_root(a, b)
-        } else {
-            Ok(None)
-        }
-    }
 }
