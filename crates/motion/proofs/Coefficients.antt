@@ -9,7 +9,7 @@ use Prim.Native.Nat.{ℕ, ◌<◌}
 use lib.Dec.{T, T_not, lit≤, lit<}
 use lib.Ieee.{Float, of_bits}
 use Rattle.std.specs.Prelude.{Result, Ok, Err}
-use Rattle.number.specs.Number.{◌⊕◌, ◌⊖◌, ◌⊗◌, zero32, one32, is_finite, refusal, number_of, numbered, refusal_of}
+use Rattle.number.specs.Number.{◌⊕◌, ◌⊖◌, ◌⊗◌, zero32, one32, is_finite, refusal, refusal_number, numbered, refusal_of}
 use Rattle.number.specs.declared.refusal.Refusal.{Refusal}
 use Rattle.number.proofs.Within.{Within, within_more, add_within, sub_within, mul_within}
 use Rattle.number.specs.Number as Answer
@@ -96,25 +96,25 @@ volume_finite x1 x2 x3 v1 v2 v3 hx1 hx2 hx3 hv1 hv2 hv3 =
 
 -- ---- by which number
 -- a verdict's refusal has the number 1 only where something is not finite
-verdict_one : (finite ranged : Bool) → number_of (numbered (refusal finite ranged)) ≡ 1 → T (not finite)
-unfolding number_of numbered
+verdict_one : (finite ranged : Bool) → refusal_number (numbered (refusal finite ranged)) ≡ 1 → T (not finite)
+unfolding refusal_number numbered
 verdict_one true true e = absurd (omega arith)
 verdict_one true mathlib.Core.Bool.false e = absurd (omega arith)
 verdict_one mathlib.Core.Bool.false ranged e = tt
 
 abbrev Not-one : Refusal → Type 0
-Not-one r = number_of r ≡ 1 → ⊥
+Not-one r = refusal_number r ≡ 1 → ⊥
 
 other_6 : Not-one (numbered 6)
-unfolding number_of numbered
+unfolding refusal_number numbered
 other_6 e = omega arith
 
 other_7 : Not-one (numbered 7)
-unfolding number_of numbered
+unfolding refusal_number numbered
 other_7 e = omega arith
 
 other_8 : Not-one (numbered 8)
-unfolding number_of numbered
+unfolding refusal_number numbered
 other_8 e = omega arith
 
 -- an answer whose refusal is none of number 1
@@ -146,7 +146,7 @@ module _ (x dx : List (List Float)) where
 
   -- refused by 1 where, and only where, a number handed over is not finite
   pub coplanar_first : (refusal_of (coplanar_times x dx) ≡ 1) ↔ T (not (finite_points x && finite_points dx))
-  unfolding coplanar_times motion_refusal refusal_of number_of numbered
+  unfolding coplanar_times motion_refusal refusal_of refusal_number numbered
   coplanar_first = (only, λ h. always ((motion_first x dx).1 h))
     where
       n : ℕ
@@ -165,4 +165,4 @@ module _ (x dx : List (List Float)) where
       always : n ≡ 1 → refusal_of (Answer.admitted n found (Made.refused n)) ≡ 1
       always e =
           ap refusal_of (sym (refused found (Made.refused n) n n refl (λ z. omega arith)))
-          ∙ ap (λ (k : ℕ). number_of (numbered k)) e
+          ∙ ap (λ (k : ℕ). refusal_number (numbered k)) e

@@ -12,7 +12,7 @@ use Rattle.number.specs.Number.{zero32, is_finite, admitted}
 use Rattle.std.specs.Prelude.{Result, Ok, Err}
 use Rattle.number.specs.declared.refusal.Refusal.{Refusal}
 use Rattle.number.proofs.Answers.{taken, refused, clauses, Told, admitted_keeps, answered_value, given, refused_by}
-use Rattle.number.specs.Number.{number_of, numbered}
+use Rattle.number.specs.Number.{refusal_number, numbered}
 use Rattle.admission.specs.Admission.{time_refusal}
 use Rattle.admission.proofs.Admitted.{time_told}
 use Rattle.motion.specs.declared.record.Pair.{Pair}
@@ -68,7 +68,7 @@ module _ (p : Pair) (t : Float) where
 
 -- a scaling's number is 0, or that of a refusal
 tests_told : (u s : Bool) → Told (cond u (cond s 0 5) 4)
-unfolding number_of numbered
+unfolding refusal_number numbered
 tests_told true true h = absurd (h refl)
 tests_told true false h = refl
 tests_told false s h = refl

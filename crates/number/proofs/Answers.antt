@@ -12,7 +12,7 @@ use lib.Ieee.Bits.{is_true}
 use borrow.Author.Rules.{rules}
 use borrow.Author.Tests.{eq-eqb, ne_eqb, eqb-true}
 use Rattle.std.specs.Prelude.{Result, Ok, Err}
-use Rattle.number.specs.Number.{zero32, refusal, number_of, numbered, refusal_of, value_of, admitted, answered}
+use Rattle.number.specs.Number.{zero32, refusal, refusal_number, numbered, refusal_of, value_of, admitted, answered}
 use Rattle.number.specs.declared.refusal.Refusal.{Refusal}
 
 -- ---- the three numbers of a verdict
@@ -60,21 +60,21 @@ admitted_keeps P n given other f g = go (eqb n 0) (eqb-true n 0)
 -- ---- the numbers of the refusals
 -- a number that is 0, or names a refusal
 abbrev pub Told : ℕ → Type 0
-Told n = (n ≡ 0 → ⊥) → number_of (numbered n) ≡ n
+Told n = (n ≡ 0 → ⊥) → refusal_number (numbered n) ≡ n
 
 pub refusal_told : (finite ranged : Bool) → Told (refusal finite ranged)
-unfolding number_of numbered
+unfolding refusal_number numbered
 refusal_told true true h = absurd (h refl)
 refusal_told true false h = refl
 refusal_told false ranged h = refl
 
 -- each refusal is the one that its number names, and none has the number 0
-pub numbered_number : (r : Refusal) → numbered (number_of r) ≡ r
-unfolding number_of numbered
+pub numbered_number : (r : Refusal) → numbered (refusal_number r) ≡ r
+unfolding refusal_number numbered
 numbered_number r = search rules
 
-pub number_some : (r : Refusal) → number_of r ≡ 0 → ⊥
-unfolding number_of
+pub number_some : (r : Refusal) → refusal_number r ≡ 0 → ⊥
+unfolding refusal_number
 number_some r e = search rules
 
 -- ---- what is answered

@@ -121,18 +121,18 @@ refusal finite ranged = cond finite (cond ranged 0 2) 1
 abbrev pub admitted {ℓ} : {A : Type ℓ} → ℕ → A → A → A
 admitted n given other = cond (eqb n 0) given other
 
--- the number of a refusal, and the refusal that has a number; 11 stands for any number that none has
-unfoldable pub number_of : Refusal → ℕ
-number_of NotFinite = 1
-number_of BeyondRange = 2
-number_of NoFactor = 4
-number_of ScaledNotFinite = 5
-number_of ZeroAtBothEnds = 6
-number_of GuessOutside = 7
-number_of NoSlope = 8
-number_of NotQuadratic = 9
-number_of NoScene = 10
-number_of BadPair = 11
+-- the number of each refusal (3 is retired), and the refusal that has a number; 11 stands for any number that none has
+unfoldable pub refusal_number : Refusal → ℕ
+refusal_number NotFinite = 1
+refusal_number BeyondRange = 2
+refusal_number NoFactor = 4
+refusal_number ScaledNotFinite = 5
+refusal_number ZeroAtBothEnds = 6
+refusal_number GuessOutside = 7
+refusal_number NoSlope = 8
+refusal_number NotQuadratic = 9
+refusal_number NoScene = 10
+refusal_number BadPair = 11
 
 unfoldable pub numbered : ℕ → Refusal
 numbered n =
@@ -149,7 +149,7 @@ numbered n =
 -- of an answer: the refusal's number, 0 for none; of one that is a number: the value, plus zero where refused
 unfoldable pub refusal_of : {A : Type 0} → Result A Refusal → ℕ
 refusal_of (Ok v) = 0
-refusal_of (Err r) = number_of r
+refusal_of (Err r) = refusal_number r
 
 unfoldable pub value_of : Result Float Refusal → Float
 value_of (Ok v) = v

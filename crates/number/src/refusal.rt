@@ -24,9 +24,9 @@ pub enum Refusal {
 }
 
 impl From<Refusal> for u32 {
-    ghost from_gives = { λ refusal n. n ≡ Def.number_of refusal };
+    ghost from_gives = { λ refusal n. n ≡ Def.refusal_number refusal };
 
-    #[tactic(auto, unfolding(crate::specs::Number::number_of))]
+    #[tactic(auto, unfolding(crate::specs::Number::refusal_number))]
     fn from(refusal: Refusal) -> u32 {
         refusal as u32
     }
