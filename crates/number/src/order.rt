@@ -1,11 +1,10 @@
 // Absolute value, smaller, larger, clamp, a zero as it is written, and the next f32 down (docs/01-scope.md, "Number
 // helpers").
-#![tactic(auto, unfolding(crate::specs::Number::size, crate::specs::Number::smaller, crate::specs::Number::larger, crate::specs::Number::clamp, crate::specs::Number::written, crate::specs::Number::next_down))]
-
 ghost use Rattle.std.specs.Prelude.{◌≡◌};
 ghost use Rattle.number.specs.Number as Def;
 
 // The absolute value. Written so that either zero becomes plus zero and a compiler makes it one instruction.
+#[tactic(auto, unfolding(crate::specs::Number::size))]
 pub fn size(x: f32) -> f32
     ensures { result ≡ Def.size x }
 {
@@ -13,6 +12,7 @@ pub fn size(x: f32) -> f32
 }
 
 // The smaller of two, the first of equals.
+#[tactic(auto, unfolding(crate::specs::Number::smaller))]
 pub fn smaller(a: f32, b: f32) -> f32
     ensures { result ≡ Def.smaller a b }
 {
@@ -20,6 +20,7 @@ pub fn smaller(a: f32, b: f32) -> f32
 }
 
 // The larger of two, the first of equals.
+#[tactic(auto, unfolding(crate::specs::Number::larger))]
 pub fn larger(a: f32, b: f32) -> f32
     ensures { result ≡ Def.larger a b }
 {
@@ -27,6 +28,7 @@ pub fn larger(a: f32, b: f32) -> f32
 }
 
 // x held to low..high.
+#[tactic(auto, unfolding(crate::specs::Number::clamp))]
 pub fn clamp(x: f32, low: f32, high: f32) -> f32
     ensures { result ≡ Def.clamp x low high }
 {
@@ -40,6 +42,7 @@ pub fn clamp(x: f32, low: f32, high: f32) -> f32
 }
 
 // A zero of either sign is written plus zero.
+#[tactic(auto, unfolding(crate::specs::Number::written))]
 pub fn written(x: f32) -> f32
     ensures { result ≡ Def.written x }
 {
@@ -47,6 +50,7 @@ pub fn written(x: f32) -> f32
 }
 
 // The greatest f32 below a number above zero.
+#[tactic(auto, unfolding(crate::specs::Number::next_down))]
 pub fn next_down(x: f32) -> f32
     ensures { result ≡ Def.next_down x }
 {

@@ -30,7 +30,6 @@ pub fn root(x: f32) -> f32
 }
 
 // The square root with its refusals: 1 for NaN or an infinity, 2 below zero.
-#[tactic(auto, unfolding(crate::specs::Number::answered, crate::specs::Number::numbered, crate::specs::Number::refusal_number, crate::specs::Number::refusal_of, crate::specs::Number::value_of, crate::specs::Number::root_refusal))]
 pub fn square_root(x: f32) -> Result<f32, Refusal>
     ensures answer { result ≡ answered (Def.root_refusal x) (Def.root_of x) }
     ensures refusal { refusal_of result ≡ Def.root_refusal x }
