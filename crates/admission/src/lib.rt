@@ -1,5 +1,5 @@
 // The tests of four points and of what callers hand over with them (docs/01-scope.md, "What callers hand over, and the
-// numbers allowed", "Refusal numbers"). They are admitted, or refused by 1, some number is NaN or infinite, or by 2, none
+// numbers allowed", "Refusal numbers"). They are admitted, or refused: by 1, some number is NaN or infinite; by 2, none
 // is, but one lies beyond its range, the split is neither 2 nor 3, or the allowance is not 1 to 4,096.
 
 #![tactic(auto)]
