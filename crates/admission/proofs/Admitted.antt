@@ -19,7 +19,7 @@ use Rattle.number.proofs.Ranges.{in_bound_lem, zero_to_bound_lem, zero_to_one_le
 use Rattle.geometry.proofs.Bounds.{Each}
 use Rattle.geometry.specs.Geometry.{at, col}
 use Rattle.admission.specs.declared.Limits.{Limits}
-use Rattle.admission.specs.Admission.{Answers, of_three, of_twelve, finite_points, bounded_points, is_split}
+use Rattle.admission.specs.Admission.{Follows, of_three, of_twelve, finite_points, bounded_points, is_split}
 use Rattle.admission.specs.Admission.{finite_limits}
 use Rattle.admission.specs.Admission.{ranged_limits, full_allowance, is_allowance, walk_refusal, points_refusal}
 use Rattle.admission.specs.Admission.{split_refusal, factor_refusal, motion_refusal, time_refusal, ratio_refusal}
@@ -34,7 +34,7 @@ module _ (test : Float → Bool) where
 
   -- what the calls of a test say of a point's three numbers
   pub three_calls : (v : List Float) (r : Bool)
-      → ((t : Float → Bool) → Answers (λ x b. b ≡ test x) t → r ≡ of_three t v) → r ≡ of_three test v
+      → ((t : Float → Bool) → Follows (λ x b. b ≡ test x) t → r ≡ of_three t v) → r ≡ of_three test v
   three_calls v r h = h test (λ x b e. e)
 
   pub twelve_each : (x : List (List Float)) → T (of_twelve test x) → Each test x
