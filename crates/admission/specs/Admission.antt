@@ -6,9 +6,9 @@ use Rattle.number.specs.Number.{is_finite, in_bound, zero_to_bound, zero_to_one,
 use Rattle.geometry.specs.Geometry.{at, col}
 use Rattle.admission.specs.declared.Limits.{Limits}
 
--- what each call at a number answers is what the test says of it
-abbrev pub Answers : (Float → Bool → Type 0) → (Float → Bool) → Type 0
-Answers post test = (x : Float) (b : Bool) → post x b → b ≡ test x
+-- each call at a number answers what the test says of it
+abbrev pub Follows : (Float → Bool → Type 0) → (Float → Bool) → Type 0
+Follows post test = (x : Float) (b : Bool) → post x b → b ≡ test x
 
 -- a test passed by the three numbers of a point, by the twelve of four points
 abbrev pub of_three : (Float → Bool) → List Float → Bool
