@@ -17,8 +17,8 @@ ROOT = pathlib.Path(__file__).resolve().parents[2]
 RECORDS = [
     ("crates/admission/src/lib.rt", "Limits", "Limits"),
     ("crates/urtemval/src/answer.rt", "SafeTime", "SafeTime"),
-    ("crates/pair/src/separation.rt", "Measured", "Distance"),
-    ("crates/polynomial_root/src/answer.rt", "Roots", "Roots"),
+    ("crates/urtemval/src/answer.rt", "Measured", "Distance"),
+    ("crates/urtemval/src/answer.rt", "Roots", "Roots"),
     ("crates/urtemval/src/answer.rt", "Value", "Value"),
 ]
 NAMES = {rattle: name for _, rattle, name in RECORDS}
@@ -127,8 +127,8 @@ def layout():
         for field, kind in fields:
             lines.append(f"field {name}.{field} at {at} size {SIZES[kind]}")
             at += SIZES[kind]
-    answer = text("crates/urtemval/src/answer.rt")
-    for name, number in re.findall(r"Answer::(\w+)\(\w+\) => timed\(\w+, (\d), [\w.]+, s\)", answer):
+    kinds = found(r"enum Kind {(.*?)}", text("crates/urtemval/src/answer.rt"), "the kinds").group(1)
+    for name, number in re.findall(r"(\w+) = (\d)", kinds):
         lines.append(f"kind {name.upper()} {number}")
     full = found(r"pub const FULL_ALLOWANCE: u32 = (\d+);", text("crates/admission/src/lib.rt"), "the full allowance")
     lines.append(f"allowance FULL_ALLOWANCE {full.group(1)}")

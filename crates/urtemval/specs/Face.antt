@@ -1,17 +1,20 @@
 -- The library's answers as records of numbers, the refusal's number first, 0 for none (docs/01-scope.md, "Refusal
 -- numbers", "The walk"). What a refusal does not have is zero. Definitions only.
-use Rattle.std.specs.Prelude.{List, Float}
-use Rattle.number.specs.{declared.answer.Answered.Answered, Number.refusal_of, Number.value_of}
+use Rattle.std.specs.Prelude.{List, [], ◌∷◌, Float, Result, Ok, Err}
+use Rattle.number.specs.Number.{zero32, number_of, refusal_of, value_of}
+use Rattle.number.specs.declared.refusal.Refusal.{Refusal}
+use Rattle.distance.specs.declared.candidate.Nearest.{Nearest}
+use Rattle.polynomial_root.specs.declared.answer.Roots as Found
 use Rattle.motion.specs.declared.record.Pair.{Pair}
 use Rattle.ccd3.specs.declared.SafeTime as Walked
 use Rattle.ccd3.specs.SafeTime.{numbers_of}
-use Rattle.urtemval.specs.declared.answer.{SafeTime.SafeTime, Value.Value}
+use Rattle.urtemval.specs.declared.answer.{SafeTime.SafeTime, Measured.Measured, Roots.Roots, Value.Value}
 
 abbrev pub pair_of : List (List Float) → List (List Float) → Pair
 pair_of x dx = record { x = x; dx = dx }
 
 -- one number, or a refusal
-unfoldable pub told : Answered → Value
+unfoldable pub told : Result Float Refusal → Value
 told a = record { refusal = refusal_of a; value = value_of a }
 
 -- a refusal, a kind and a time, with the counts that the walk made
@@ -19,3 +22,16 @@ unfoldable pub safe_time : Walked.SafeTime → SafeTime
 safe_time s =
     let n = numbers_of s.answer in
     record { refusal = n.0; kind = n.1; time = n.2; probes = s.probes; halvings = s.halvings }
+
+abbrev pub zeros : List Float
+zeros = zero32 ∷ zero32 ∷ zero32 ∷ []
+
+-- a distance, or a refusal
+unfoldable pub measured_of : Result Nearest Refusal → Measured
+measured_of (Ok n) = record { refusal = 0; squared = n.squared; direction = n.direction; candidate = n.candidate }
+measured_of (Err r) = record { refusal = number_of r; squared = zero32; direction = zeros; candidate = 0 }
+
+-- the roots in their places, or a refusal
+unfoldable pub roots_of : Result Found.Roots Refusal → Roots
+roots_of (Ok a) = record { refusal = 0; count = a.count; roots = a.roots }
+roots_of (Err r) = record { refusal = number_of r; count = 0; roots = zeros }

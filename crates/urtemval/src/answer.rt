@@ -1,12 +1,24 @@
-// What the exported functions answer: an enum of the library becomes a record of numbers, in which the refusal's number
-// comes first (0: not refused) and what a refusal does not have is zero.
+// What the exported functions answer: an answer of the library becomes a record of numbers, in which the refusal's
+// number comes first (0: not refused) and what a refusal does not have is zero.
 ghost use Rattle.std.specs.Prelude.{◌≡◌};
 ghost use Rattle.urtemval.specs.Face as Def;
 
 use ccd3::Answer;
-use number::answer::Answered;
+use distance::candidate::Nearest;
+use number::refusal::Refusal;
+use polynomial_root::answer;
 
-// How a safe time ends: its kind is 0 touching, 1 contact, 2 clear, 3 budget, 4 refused.
+// How a safe time ends, by the number that C has for it.
+#[derive(Clone, Copy)]
+enum Kind {
+    Touching = 0,
+    Contact = 1,
+    Clear = 2,
+    Budget = 3,
+    Refused = 4,
+}
+
+// A safe time, with the number of its kind; or a refusal.
 #[repr(C)]
 #[derive(Clone, Copy)]
 pub struct SafeTime {
@@ -17,6 +29,26 @@ pub struct SafeTime {
     pub halvings: u32,
 }
 
+// A squared distance, the direction from the first side to the second, and which candidate was the first smallest; or a
+// refusal.
+#[repr(C)]
+#[derive(Clone, Copy)]
+pub struct Measured {
+    pub refusal: u32,
+    pub squared: f32,
+    pub direction: [f32; 3],
+    pub candidate: u32,
+}
+
+// The roots in the first `count` places, zero in the others; or a refusal.
+#[repr(C)]
+#[derive(Clone, Copy)]
+pub struct Roots {
+    pub refusal: u32,
+    pub count: u32,
+    pub roots: [f32; 3],
+}
+
 // One number, or a refusal.
 #[repr(C)]
 #[derive(Clone, Copy)]
@@ -25,48 +57,87 @@ pub struct Value {
     pub value: f32,
 }
 
-fn timed(refusal: u32, kind: u32, time: f32, s: ccd3::SafeTime) -> SafeTime
-    ensures { result ≡ record {
-      refusal = refusal;
-      kind = kind;
-      time = time;
-      probes = s.probes;
-      halvings = s.halvings;
-    } }
-{
-    SafeTime {
-        refusal: refusal,
-        kind: kind,
-        time: time,
-        probes: s.probes,
-        halvings: s.halvings,
+impl From<ccd3::SafeTime> for SafeTime {
+    ghost from_gives = { λ safe told. told ≡ Def.safe_time safe };
+
+    #[tactic(auto, unfolding(crate::specs::Face::safe_time, ccd3::specs::SafeTime::numbers_of))]
+    fn from(safe: ccd3::SafeTime) -> SafeTime {
+        let (refusal, kind, time) = match safe.answer {
+            Answer::Touching(time) => (0, Kind::Touching, time),
+            Answer::Contact(time) => (0, Kind::Contact, time),
+            Answer::Clear(time) => (0, Kind::Clear, time),
+            Answer::Budget(time) => (0, Kind::Budget, time),
+            Answer::Refused(refusal) => (refusal, Kind::Refused, 0.0),
+        };
+        SafeTime {
+            refusal,
+            kind: kind as u32,
+            time,
+            probes: safe.probes,
+            halvings: safe.halvings,
+        }
     }
 }
 
-pub(crate) fn safe_time(s: ccd3::SafeTime) -> SafeTime
-    ensures { result ≡ Def.safe_time s }
-{
-    let answer = s.answer;
-    match answer {
-        Answer::Touching(time) => timed(0, 0, time, s),
-        Answer::Contact(time) => timed(0, 1, time, s),
-        Answer::Clear(time) => timed(0, 2, time, s),
-        Answer::Budget(time) => timed(0, 3, time, s),
-        Answer::Refused(refusal) => timed(refusal, 4, 0.0, s),
+impl From<Result<Nearest, Refusal>> for Measured {
+    ghost from_gives = { λ answer told. told ≡ Def.measured_of answer };
+
+    #[tactic(auto, unfolding(crate::specs::Face::measured_of))]
+    fn from(answer: Result<Nearest, Refusal>) -> Measured {
+        match answer {
+            Ok(nearest) => {
+                let direction = nearest.direction;
+                Measured {
+                    refusal: 0,
+                    squared: nearest.squared,
+                    direction,
+                    candidate: nearest.candidate,
+                }
+            }
+            Err(refusal) => Measured {
+                refusal: u32::from(refusal),
+                squared: 0.0,
+                direction: [0.0; 3],
+                candidate: 0,
+            },
+        }
     }
 }
 
-pub(crate) fn told(a: Answered) -> Value
-    ensures { result ≡ Def.told a }
-{
-    match a {
-        Answered::Value(value) => Value {
-            refusal: 0,
-            value: value,
-        },
-        Answered::Refused(refusal) => Value {
-            refusal: refusal,
-            value: 0.0,
-        },
+impl From<Result<answer::Roots, Refusal>> for Roots {
+    ghost from_gives = { λ answer told. told ≡ Def.roots_of answer };
+
+    #[tactic(auto, unfolding(crate::specs::Face::roots_of))]
+    fn from(answer: Result<answer::Roots, Refusal>) -> Roots {
+        match answer {
+            Ok(found) => {
+                let roots = found.roots;
+                Roots {
+                    refusal: 0,
+                    count: found.count,
+                    roots,
+                }
+            }
+            Err(refusal) => Roots {
+                refusal: u32::from(refusal),
+                count: 0,
+                roots: [0.0; 3],
+            },
+        }
+    }
+}
+
+impl From<Result<f32, Refusal>> for Value {
+    ghost from_gives = { λ answer told. told ≡ Def.told answer };
+
+    #[tactic(auto, unfolding(crate::specs::Face::told, number::specs::Number::refusal_of, number::specs::Number::value_of))]
+    fn from(answer: Result<f32, Refusal>) -> Value {
+        match answer {
+            Ok(value) => Value { refusal: 0, value },
+            Err(refusal) => Value {
+                refusal: u32::from(refusal),
+                value: 0.0,
+            },
+        }
     }
 }

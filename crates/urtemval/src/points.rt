@@ -8,27 +8,26 @@ ghost use Rattle.pair.specs.Points.{measured, norm_of, ErrsUpward};
 ghost use Rattle.motion.specs.Motion.{scaling_of, leaves};
 ghost use Rattle.urtemval.specs.Face as Def;
 
-use crate::answer;
-use crate::answer::Value;
-use motion::{record, scaling};
-use pair::separation::Measured;
-use pair::{norm, separation};
+use crate::answer::{Measured, Value};
+use motion::record::Pair;
+use motion::scaling::normalize_centerized_configuration;
+use pair::norm::max_relative_norm;
+use pair::separation::squared_distance;
 
 #[unsafe(no_mangle)]
 pub extern "C" fn urtemval_squared_distance(x: &[[f32; 3]; 4], split: usize) -> Measured
-    ensures { result ≡ measured x.now split }
+    ensures { result ≡ Def.measured_of (measured x.now split) }
 {
-    let points = *x;
-    separation::squared_distance(points, split)
+    Measured::from(squared_distance(*x, split))
 }
 
+#[tactic(auto, unfolding(crate::specs::Face::told))]
 #[unsafe(no_mangle)]
 pub extern "C" fn urtemval_max_relative_norm(x: &[[f32; 3]; 4], split: usize) -> Value
     ensures answer { result ≡ Def.told (answered (split_refusal x.now split) (norm_of x.now split)) }
     ensures upward { result.refusal ≡ 0 → ErrsUpward x.now split result.value }
 {
-    let points = *x;
-    answer::told(norm::max_relative_norm(points, split))
+    Value::from(max_relative_norm(*x, split))
 }
 
 // The lent points and displacements are copied into a pair record, which is lent to the scaling; they hold the scaled
@@ -43,15 +42,11 @@ pub extern "C" fn urtemval_scale_pair(
     ensures points { x.new ≡ (leaves (Def.pair_of x.old dx.old) max_t).x }
     ensures moves { dx.new ≡ (leaves (Def.pair_of x.old dx.old) max_t).dx }
 {
-    let points = *x;
-    let moves = *dx;
-    let out = scaling::after_scaling(record::pair_of(points, moves), max_t);
-    let factor = out.answer;
-    let told = answer::told(factor);
-    if told.refusal == 0 {
-        let scaled = out.pair;
-        *x = record::x_of(scaled);
-        *dx = record::dx_of(scaled);
+    let mut pair = Pair { x: *x, dx: *dx };
+    let answer = normalize_centerized_configuration(&mut pair, max_t);
+    if answer.is_ok() {
+        *x = pair.x;
+        *dx = pair.dx;
     }
-    told
+    Value::from(answer)
 }

@@ -5,10 +5,11 @@ ghost use Rattle.ccd3.specs.SafeTime.{safe_time_of, Promised};
 ghost use Rattle.ccd3.specs.Allowance.{Grows};
 ghost use Rattle.urtemval.specs.Face as Def;
 
-use crate::answer;
 use crate::answer::SafeTime;
 use admission::{FULL_ALLOWANCE, Limits};
+use ccd3::safe_time::maximum_safe_time_allowing;
 
+#[tactic(auto, unfolding(crate::specs::Face::safe_time))]
 #[unsafe(no_mangle)]
 pub extern "C" fn urtemval_safe_time_allowing(
     x0: &[[f32; 3]; 4],
@@ -24,9 +25,7 @@ pub extern "C" fn urtemval_safe_time_allowing(
     ensures grows { Grows x0.now dx.now split limits allowance
         result.refusal result.kind result.time result.probes result.halvings }
 {
-    let x = *x0;
-    let d = *dx;
-    answer::safe_time(ccd3::safe_time::maximum_safe_time_allowing(x, d, split, limits, allowance))
+    SafeTime::from(maximum_safe_time_allowing(*x0, *dx, split, limits, allowance))
 }
 
 // With as many probes allowed as may be. The pair is lent on, and not copied once more.
