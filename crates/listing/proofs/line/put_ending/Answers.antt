@@ -1,5 +1,4 @@
 -- In each case, text after text.
-use Rattle.std.proofs.Common.{rules}
 use Rattle.listing.specs.Listing.{ending, timed}
 use Rattle.text.proofs.Puts.{and_then}
 use Rattle.listing.proofs.line.put_ending.Goals as goal
@@ -21,5 +20,5 @@ unfolding ending timed
 returns-in-Budget c = rw c.in-Budget.is c.put_timed-in-Budget.ensures
 
 pub returns-in-Refused : goal.returns-in-Refused
-unfolding ending
-returns-in-Refused c = rw c.in-Refused.is (search (and_then), search rules)
+unfolding ending timed
+returns-in-Refused c = rw c.in-Refused.is (and_then c.bytes.ensures c.decimal.ensures)
