@@ -4,7 +4,7 @@ use native.Mathlib.Omega.{arith}
 use mathlib.Core.Path.{◌≡◌, refl, sym, ap, subst, ◌∙◌}
 use mathlib.Core.List.{List, [], ◌++◌}
 use lib.ListN.{length, drop, length-append}
-use lib.Seq.{sets, sets-eq, length-sets}
+use lib.Seq.{sets, sets-eq}
 use Rattle.std.specs.Borrow.{MutBor}
 use Rattle.text.specs.Text.{Put, Written, Blank, most}
 use Rattle.text.specs.declared.Page.{Page}
@@ -22,14 +22,9 @@ and_then {p} {q} {r} {a} {b} v w = record {
   counted = omega (arith, length-append a b);
 }
 
--- nothing more is written
-pub nothing_more : {p q : Page} {a : List ℕ} → Written p a q → Written q [] q
-nothing_more {p} {q} {a} w = record {
-  same_buffer = refl;
-  fits = omega (arith, w.fits, ap length w.wrote, length-sets p.out.now p.at a);
-  wrote = refl;
-  counted = omega (arith, w.counted);
-}
+-- nothing is written
+pub nothing : {p : Page} → length p.out.now ≤ most → Written p [] p
+nothing h = record { same_buffer = refl; fits = h; wrote = refl; counted = omega arith }
 
 -- another name for the text
 pub as_text : {p q : Page} {a b : List ℕ} → a ≡ b → Written p a q → Written p b q

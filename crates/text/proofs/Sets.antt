@@ -28,18 +28,18 @@ sets_past (x ∷ a) l i h =
     sets_past a (set l i x) (suc i) (omega (arith, length-set l i x)) ∙ set_out l i x h
 
 -- a text that goes on where the count of another one stops
-pub sets_counted : (a b l : List ℕ) (i j : ℕ) → length l ≤ most → j ≡ min (i + length a) most
+pub sets_counted : (a b l : List ℕ) (i j : ℕ) → length l ≤ most → j ≡ i + min (length a) (most - i)
     → sets (sets l i a) j b ≡ sets l i (a ++ b)
-sets_counted a b l i j h e = pick (ltb most (i + length a)) refl
+sets_counted a b l i j h e = pick (ltb (most - i) (length a)) refl
   where
-    pick : (t : Bool) → ltb most (i + length a) ≡ t → sets (sets l i a) j b ≡ sets l i (a ++ b)
+    pick : (t : Bool) → ltb (most - i) (length a) ≡ t → sets (sets l i a) j b ≡ sets l i (a ++ b)
     pick true f =
-        let past = ltb-true most (i + length a) f in
+        let past = ltb-true (most - i) (length a) f in
         sets_past b (sets l i a) j (omega (arith, length-sets l i a))
         ∙ sym (sets_past b (sets l i a) (i + length a) (omega (arith, length-sets l i a)))
         ∙ sets_append a b l i
     pick false f =
-        let within = ltb-false most (i + length a) f in
+        let within = ltb-false (most - i) (length a) f in
         let same : j ≡ i + length a = omega arith in
         ap (λ (k : ℕ). sets (sets l i a) k b) same ∙ sets_append a b l i
 

@@ -48,4 +48,4 @@ pub record Written (before : Page) (text : List ℕ) (after : Page) : Type 0 whe
   pub same_buffer : after.out.ghost_name ≡ before.out.ghost_name
   pub fits : length before.out.now ≤ most
   pub wrote : after.out.now ≡ sets before.out.now before.at text
-  pub counted : after.at ≡ min (before.at + length text) most
+  pub counted : after.at ≡ before.at + min (length text) (most - before.at)

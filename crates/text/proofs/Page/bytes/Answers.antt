@@ -1,5 +1,5 @@
 -- What stands before the end is written.
-use Rattle.std.proofs.Common.{refl, rules, arith}
+use Rattle.std.proofs.Common.{refl, arith}
 use Rattle.text.proofs.Sets.{sets_shown}
 use Rattle.text.proofs.Page.bytes.Goals as goal
 
@@ -8,5 +8,5 @@ returns c = record {
   same_buffer = refl;
   fits = omega arith;
   wrote = sets_shown _ _ _ _ _ _ _ c.min-start.ensures c.min-shown.ensures c.copy_from_slice.ensures.after (omega arith);
-  counted = search rules;
+  counted = omega arith;
 }
