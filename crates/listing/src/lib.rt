@@ -53,7 +53,7 @@ pub fn listing(s: &[u8], out: &mut [u8]) -> usize
     ensures whole { result ≤ length out.old
         → out.new ≡ Def.listing s.now ++ drop result out.old }
 {
-    let mut page = Page::new(out);
+    let mut page = Page::new(out, 0);
     put_listing(&mut page, s);
-    page.length()
+    page.next_place()
 }

@@ -24,6 +24,7 @@ fn put_timed(page: &mut Page, kind: &[u8], t: f32, safe: SafeTime)
 }
 
 // How a pair ends: a time of its kind, or a refusal.
+#[tactic(auto, unfolding(crate::specs::Listing::ending, crate::specs::Listing::timed))]
 fn put_ending(page: &mut Page, safe: SafeTime)
     ensures { Written page.old (Def.ending safe.answer safe) page.new }
 {

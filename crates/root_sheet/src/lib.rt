@@ -124,7 +124,7 @@ pub fn sheet(bits: u32, out: &mut [u8]) -> usize
     ensures whole { result ≤ length out.old
         → out.new ≡ Def.sheet bits ++ drop result out.old }
 {
-    let mut page = Page::new(out);
+    let mut page = Page::new(out, 0);
     put_sheet(&mut page, bits);
-    page.length()
+    page.next_place()
 }

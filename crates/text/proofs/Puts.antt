@@ -1,12 +1,12 @@
 -- Text written after text, and what that says of the buffer behind the page. Assumes nothing.
-use Prim.Native.Nat.{ℕ, ◌≤◌}
+use Prim.Native.Nat.{ℕ, ◌+◌, ◌≤◌}
 use native.Mathlib.Omega.{arith}
 use mathlib.Core.Path.{◌≡◌, refl, sym, ap, subst, ◌∙◌}
 use mathlib.Core.List.{List, [], ◌++◌}
 use lib.ListN.{length, drop, length-append}
-use lib.Seq.{sets, sets-eq}
+use lib.Seq.{sets, sets-eq, length-sets}
 use Rattle.std.specs.Borrow.{MutBor}
-use Rattle.text.specs.Text.{Put, Written, Blank, most}
+use Rattle.text.specs.Text.{Put, Starts, Written, most}
 use Rattle.text.specs.declared.Page.{Page}
 use Rattle.text.proofs.Sets.{sets_counted}
 
@@ -26,20 +26,24 @@ and_then {p} {q} {r} {a} {b} v w = record {
 pub nothing : {p : Page} → length p.out.now ≤ most → Written p [] p
 nothing h = record { same_buffer = refl; fits = h; wrote = refl; counted = omega arith }
 
+-- the buffer keeps its length
+pub still_fits : {p q : Page} {a : List ℕ} → Written p a q → length q.out.now ≤ most
+still_fits {p} {q} {a} w = omega (arith, w.fits, ap length w.wrote, length-sets p.out.now p.at a)
+
 -- another name for the text
 pub as_text : {p q : Page} {a b : List ℕ} → a ≡ b → Written p a q → Written p b q
 as_text e w = rw e at w
 
--- what was written on a blank page is put into the buffer behind it
-pub put : {o : MutBor (List ℕ)} {p q : Page} {a o' : List ℕ} {j : ℕ} → Blank o p → Written p a q → length a ≤ most
-    → o' ≡ q.out.now → j ≡ q.at → Put o.now 0 a o' j
-put {o} {p} {q} {a} n w h e f = record {
+-- what was written on a page from its start on is put into the buffer behind it
+pub put : {o : MutBor (List ℕ)} {p q : Page} {a o' : List ℕ} {i j : ℕ} → Starts o i p → Written p a q
+    → i + length a ≤ most → o' ≡ q.out.now → j ≡ q.at → Put o.now i a o' j
+put {o} {p} {q} {a} {o'} {i} n w h e f = record {
   wrote =
       e
       ∙ w.wrote
       ∙ ap (λ (l : List ℕ). sets l p.at a) n.nothing_written
-      ∙ ap (λ (k : ℕ). sets o.now k a) n.nothing_counted;
-  moved = omega (arith, w.counted, n.nothing_counted);
+      ∙ ap (λ (k : ℕ). sets o.now k a) n.at_place;
+  moved = omega (arith, w.counted, n.at_place);
 }
 
 -- the place after a text that is put at the start is as far as the text is long

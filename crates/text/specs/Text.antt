@@ -36,11 +36,11 @@ pub record Put (before : List ℕ) (at : ℕ) (text : List ℕ) (after : List �
 abbrev pub most : ℕ
 most = 2 ^ 64 - 1
 
--- a page over a lent buffer, on which nothing was written
-pub record Blank (buffer : MutBor (List ℕ)) (page : Page) : Type 0 where
+-- a page over a lent buffer starts at a place: nothing is written yet
+pub record Starts (buffer : MutBor (List ℕ)) (at : ℕ) (page : Page) : Type 0 where
   pub same_buffer : page.out.ghost_name ≡ buffer.ghost_name
   pub nothing_written : page.out.now ≡ buffer.now
-  pub nothing_counted : page.at ≡ 0
+  pub at_place : page.at ≡ at
 
 -- A text was written on a page after what was there. What lies past the end of the buffer is not written, and is
 -- counted; the count stops at the greatest one.

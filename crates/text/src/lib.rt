@@ -2,11 +2,11 @@
 
 #![tactic(auto)]
 
-ghost use Rattle.std.specs.Prelude.{◌≡◌};
-ghost use Rattle.text.specs.Text.{Blank, Written};
+ghost use Rattle.std.specs.Prelude.{◌≡◌, ◌≤◌, length};
+ghost use Rattle.text.specs.Text.{Starts, Written};
 ghost use Rattle.text.specs.Text as Def;
 
-// A lent buffer and how many bytes were written on it. What lies past the buffer's end is counted and not written.
+// A lent buffer and the place of the next byte. What lies past the buffer's end is counted and not written.
 #[derive(Drop)]
 pub struct Page<'a> {
     out: &'a mut [u8],
@@ -14,15 +14,15 @@ pub struct Page<'a> {
 }
 
 impl<'a> Page<'a> {
-    // A page on which nothing is written.
-    pub fn new(out: &'a mut [u8]) -> Page<'a>
-        ensures { Blank out.entry result }
+    // A page whose first byte goes to place `at`.
+    pub fn new(out: &'a mut [u8], at: usize) -> Page<'a>
+        ensures { Starts out.entry at result }
     {
-        Page { out, at: 0 }
+        Page { out, at }
     }
 
-    // How many bytes were written, those past the end too.
-    pub fn length(&self) -> usize
+    // The place of the next byte: of a page that began at 0, how many bytes were written, those past the end too.
+    pub fn next_place(&self) -> usize
         ensures { result ≡ self.now.at }
     {
         self.at
@@ -39,7 +39,8 @@ impl<'a> Page<'a> {
 
     // The decimal digits of n, none of them a zero in front.
     pub fn decimal(&mut self, n: u32)
-        ensures { Written self.old (Def.decimal n) self.new }
+        ensures written { Written self.old (Def.decimal n) self.new }
+        ensures short { length (Def.decimal n) ≤ 10 }
     {
         let mut digits = [0u8; 20];
         let k = io::decimal(u64::from(n), &mut digits);
@@ -48,7 +49,8 @@ impl<'a> Page<'a> {
 
     // The eight hexadecimal digits of n, in lower case.
     pub fn hex(&mut self, n: u32)
-        ensures { Written self.old (Def.hex n) self.new }
+        ensures written { Written self.old (Def.hex n) self.new }
+        ensures short { length (Def.hex n) ≤ 8 }
     {
         let mut digits = [0u8; 16];
         let k = io::hex(u64::from(n), 8, &mut digits);

@@ -1,6 +1,6 @@
 -- Line after line.
 use Rattle.std.proofs.Common.{◌≡◌, ℕ, ◌+◌, List, ◌++◌, ap, arith, add-one}
-use Rattle.text.proofs.Puts.{and_then, as_text, nothing}
+use Rattle.text.proofs.Puts.{and_then, as_text, nothing, still_fits}
 use Rattle.scene.specs.Scene.{safe_time_at}
 use Rattle.listing.specs.Listing.{line, lines, listed}
 use Rattle.listing.proofs.put_pairs.Goals as goal
@@ -11,7 +11,7 @@ one_more s i = rw add-one
 
 pub loop-i-init : goal.loop-i-init
 unfolding lines
-loop-i-init c = nothing (omega arith)
+loop-i-init c = nothing (still_fits c.put_counted.ensures)
 
 pub loop-i-preserved : goal.loop-i-preserved
 loop-i-preserved c =

@@ -7,5 +7,5 @@ pub returns : goal.returns
 unfolding closing
 returns c =
     let line = rw (c.sheet_after-s.ensures.sheet, c.sheet_after-t.ensures.sheet) at c.put_row.ensures in
-    let last = rw c.sheet_after-t.ensures.sheet at c.hex.ensures in
+    let last = rw c.sheet_after-t.ensures.sheet at c.hex.ensures.written in
     and_then (and_then (and_then (and_then c.bytes.ensures line) c.bytes-2.ensures) last) c.bytes-3.ensures

@@ -15,7 +15,7 @@ loop-init c = record {
 
 pub loop-preserved : goal.loop-preserved
 loop-preserved c =
-    next c.loop.invariant c.if-rest-eq0.false (omega arith) c.decimal.ensures
+    next c.loop.invariant c.if-rest-eq0.false (omega arith) c.decimal.ensures.written
 
 pub returns-then-rest-eq0 : goal.returns-then-rest-eq0
 returns-then-rest-eq0 c = ended c.loop.invariant (no_more _ _ c.if-rest-eq0.true)

@@ -12,4 +12,4 @@ pub returns : goal.returns
 unfolding row
 returns c =
     let first = rw (doubled c.args.s.left c.requires.2) at c.put_tried.ensures in
-    and_then (and_then (and_then first c.put_cell.ensures) c.hex.ensures) c.bytes.ensures
+    and_then (and_then (and_then first c.put_cell.ensures) c.hex.ensures.written) c.bytes.ensures
