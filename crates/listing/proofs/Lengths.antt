@@ -1,19 +1,19 @@
 -- A listing has 65,536 bytes at most. Assumes nothing.
-use Rattle.std.proofs.Common.{ℕ, zero, suc, ◌+◌, ◌*◌, ◌≤◌, List, length, arith, length-append}
-use Rattle.std.specs.Prelude.{Float}
+use Rattle.std.proofs.Common.{◌≡◌, ℕ, zero, suc, ◌+◌, ◌*◌, ◌≤◌, List, length, sym, refl, arith, length-append}
+use Rattle.std.specs.Prelude.{Float, Result, Ok, Err}
 use Rattle.std.specs.Float.{binary32}
 use Rattle.std.specs.Float.Ieee.{to_bits}
 use Rattle.ccd3.specs.declared.Answer.{Answer}
 use Rattle.ccd3.specs.declared.Answer.TheVariants.{Touching, Contact, Clear, Budget, Refused}
 use Rattle.ccd3.specs.declared.SafeTime.{SafeTime}
+use Rattle.number.specs.declared.refusal.Refusal.{Refusal}
+use Rattle.number.specs.Number.{number_of}
+use Rattle.scene.specs.declared.layout.Scene.{Scene}
 use Rattle.scene.specs.Scene.{scene_of, safe_time_at}
 use Rattle.scene.proofs.Spelling.{few_pairs}
 use Rattle.text.specs.Text.{codes}
 use Rattle.text.proofs.Lengths.{decimal_short, length-hex}
 use Rattle.listing.specs.Listing.{spaced, timed, ending, line, lines, counted, listed, listing}
-
-spaced_short : (n : ℕ) → length (spaced n) ≤ 11
-spaced_short n = simp length-append (omega (arith, decimal_short n))
 
 timed_short : (kind : List ℕ) (t : Float) (s : SafeTime) → length kind ≤ 10 → length (timed kind t s) ≤ 40
 unfolding timed
@@ -42,12 +42,13 @@ counted_short : (word : List ℕ) (n : ℕ) → length (counted word n) ≤ leng
 unfolding counted
 counted_short word n = simp length-append (omega (arith, decimal_short n))
 
-listed_short : (s : List ℕ) (r m : ℕ) → m ≤ 1024 → length (listed s r m) ≤ 65536
+listed_short : (s : List ℕ) (r : Result Scene Refusal) → r ≡ scene_of s → length (listed s r) ≤ 65536
 unfolding listed
-listed_short s zero m h =
-    simp length-append (omega (arith, counted_short (codes "pairs ") m, lines_short s m))
-listed_short s (suc r) m h = omega (arith, counted_short (codes "scene refused ") (suc r))
+listed_short s (Ok scene) e =
+    simp length-append
+    (omega (arith, few_pairs s scene (sym e), counted_short (codes "pairs ") scene.pairs, lines_short s scene.pairs))
+listed_short s (Err r) e = omega (arith, counted_short (codes "scene refused ") (number_of r))
 
 pub listing_short : (s : List ℕ) → length (listing s) ≤ 65536
 unfolding listing
-listing_short s = listed_short s (scene_of s).refusal (scene_of s).pairs (few_pairs s)
+listing_short s = listed_short s (scene_of s) refl

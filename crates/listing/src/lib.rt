@@ -5,12 +5,12 @@
 
 mod line;
 
-ghost use Rattle.std.specs.Prelude.{◌≡◌, ◌++◌, ◌≤◌, length, drop};
+ghost use Rattle.std.specs.Prelude.{◌≡◌, ◌++◌, ◌≤◌, length, drop, Ok};
 ghost use Rattle.text.specs.Text.{Put, Written};
 ghost use Rattle.listing.specs.Listing as Def;
 
 use crate::line::put_line;
-use scene::layout;
+use scene::layout::{self, Scene};
 use scene::pairs::safe_time;
 use text::Page;
 
@@ -24,11 +24,11 @@ fn put_counted(page: &mut Page, word: &[u8], n: u32)
 }
 
 // The first line and the lines of the pairs.
-fn put_pairs(page: &mut Page, s: &[u8], pairs: u32)
-    ensures { Written page.old (Def.listed s.now 0 pairs) page.new }
+fn put_pairs(page: &mut Page, s: &[u8], scene: Scene)
+    ensures { Written page.old (Def.listed s.now (Ok scene)) page.new }
 {
-    put_counted(page, b"pairs ", pairs);
-    for i in 0..pairs {
+    put_counted(page, b"pairs ", scene.pairs);
+    for i in 0..scene.pairs {
         put_line(page, i, safe_time(s, i));
     }
 }
@@ -37,11 +37,9 @@ fn put_pairs(page: &mut Page, s: &[u8], pairs: u32)
 fn put_listing(page: &mut Page, s: &[u8])
     ensures { Written page.old (Def.listing s.now) page.new }
 {
-    let scene = layout::read(s);
-    if scene.refusal == 0 {
-        put_pairs(page, s, scene.pairs);
-    } else {
-        put_counted(page, b"scene refused ", scene.refusal);
+    match layout::read(s) {
+        Ok(scene) => put_pairs(page, s, scene),
+        Err(refusal) => put_counted(page, b"scene refused ", u32::from(refusal)),
     }
 }
 

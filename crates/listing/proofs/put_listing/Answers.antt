@@ -1,29 +1,24 @@
--- What is listed goes by the refusal.
-use Rattle.std.proofs.Common.{◌≡◌, ℕ, zero, suc, List, refl}
+-- By what the file turns out to be.
+use mathlib.Core.Path.{◌≡◌, sym, ap, ◌∙◌}
+use Prim.Native.Nat.{ℕ}
+use mathlib.Core.List.{List}
+use Rattle.std.specs.Prelude.{Result}
+use Rattle.number.specs.declared.refusal.Refusal.{Refusal}
 use Rattle.scene.specs.declared.layout.Scene.{Scene}
 use Rattle.scene.specs.Scene.{scene_of}
-use Rattle.text.specs.Text.{codes}
 use Rattle.text.proofs.Puts.{as_text}
 use Rattle.listing.specs.Listing.{counted, listed, listing}
 use Rattle.listing.proofs.put_listing.Goals as goal
 
-module _ (s : List ℕ) (x : Scene) (e : x ≡ scene_of s) where
-  lists : x.refusal ≡ 0 → listed s 0 x.pairs ≡ listing s
-  unfolding listing
-  lists z = rw (← e, z)
+-- what is read of the file is what is listed
+lists : (s : List ℕ) (r x : Result Scene Refusal) → r ≡ scene_of s → r ≡ x → listed s x ≡ listing s
+unfolding listing
+lists s r x e f = ap (listed s) (sym f ∙ e)
 
-  refuses : (x.refusal ≡ 0 → ⊥) → counted (codes "scene refused ") x.refusal ≡ listing s
-  unfolding listing listed
-  refuses n = rw (← e) (by_number x.refusal n)
-    where
-      by_number : (r : ℕ) → (r ≡ 0 → ⊥) → counted (codes "scene refused ") r ≡ listed s r x.pairs
-      by_number zero n = absurd (n refl)
-      by_number (suc r) n = refl
+pub returns-in-Ok : goal.returns-in-Ok
+returns-in-Ok c = as_text (lists _ _ _ c.read.ensures.scene c.in-Ok.is) c.put_pairs.ensures
 
-pub returns-then-scene-eq0 : goal.returns-then-scene-eq0
-returns-then-scene-eq0 c =
-    as_text (lists _ _ c.read-scene.ensures.scene c.if-scene-eq0.true) c.put_pairs.ensures
-
-pub returns-else-scene-eq0 : goal.returns-else-scene-eq0
-returns-else-scene-eq0 c =
-    as_text (refuses _ _ c.read-scene.ensures.scene c.if-scene-eq0.false) c.put_counted.ensures
+pub returns-in-Err : goal.returns-in-Err
+unfolding listed
+returns-in-Err c =
+    as_text (lists _ _ _ c.read.ensures.scene c.in-Err.is) (rw c.from.ensures at c.put_counted.ensures)

@@ -21,5 +21,5 @@ loop-i-preserved c =
 pub returns : goal.returns
 unfolding listed
 returns c =
-    let end : c.loop-i.i ≡ c.args.pairs = omega arith in
+    let end : c.loop-i.i ≡ c.args.scene.pairs = omega arith in
     and_then c.put_counted.ensures (as_text (ap (lines _) end) c.loop-i.invariant)

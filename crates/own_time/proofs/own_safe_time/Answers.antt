@@ -1,11 +1,7 @@
--- `own_time::own_safe_time` meets its contract: the walk's answer and its promises, with the norm as u_max; and that norm
--- errs upward. Assumes nothing.
-use Prim.Native.Nat.{ℕ}
-use mathlib.Core.Path.{sym, ◌∙◌, subst}
-use mathlib.Core.List.{List}
-use borrow.Author.Rules.{rules}
+-- Where the walk is not refused, u_max, the norm of the displacements, is 2 ^ -60 or more; and that norm errs upward.
+use Rattle.std.proofs.Common.{List, ℕ, Float, sym, ◌∙◌, subst}
 use lib.Dec.{T}
-use lib.Ieee.{Float, le}
+use lib.Ieee.{le}
 use lib.Ieee.Fits.{and_l}
 use Rattle.number.specs.Number.{least_speed}
 use Rattle.geometry.proofs.Handed.{PointsFit, points_fit}
@@ -15,10 +11,8 @@ use Rattle.pair.specs.Points.{norm_of}
 use Rattle.pair.proofs.NormBounds.{norm_upward}
 use Rattle.ccd3.specs.declared.SafeTime.{SafeTime}
 use Rattle.own_time.specs.OwnTime.{own_limits, OwnPromises, OwnSpeed}
-use Rattle.own_time.proofs.own_safe_time.Statement.{statement}
-use Rattle.own_time.proofs.own_safe_time.Tie as tie
+use Rattle.own_time.proofs.own_safe_time.Goals as goal
 
--- a call that is not refused has a u_max of 2 ^ -60 or more
 module _ (x₀ dx : List (List Float)) (split : ℕ) (offset clearance max_t : Float) (f : PointsFit dx) where
   own_speed : (s : SafeTime) → OwnPromises x₀ dx split offset clearance max_t s
       → OwnSpeed x₀ dx split offset clearance max_t s
@@ -28,13 +22,9 @@ module _ (x₀ dx : List (List Float)) (split : ℕ) (offset clearance max_t : F
       let up = norm_upward dx split w.displacements f in
       up.not_below (subst T up.told (and_l (le least_speed (norm_of dx split)) _ w.u_max))
 
-returns : tie.Need-returns
-returns c =
-    let a = c.before.before.args in
-    let r = c.maximum_safe_time_accurate.result in
-    let all = rw c.before.norm-u_max.ensures at c.maximum_safe_time_accurate.ensures in
-    let f = points_fit a.dx _ c.before.before.well_formed.1.0 in
-    (all.0, (all.1, own_speed a.x0 a.dx a.split a.offset a.clearance a.max_t f r all.1))
-
-pub own_safe_time_spec : {M : Type 1} → statement M
-own_safe_time_spec = tie.close (tie.spec (search rules) (search rules) returns)
+pub returns-clause-speed : goal.returns-clause-speed
+returns-clause-speed c =
+    let a = c.args in
+    let f = points_fit a.dx _ c.well_formed.1.0 in
+    let promised = rw c.norm-u_max.ensures at c.maximum_safe_time_accurate.ensures.promised in
+    own_speed a.x0 a.dx a.split a.offset a.clearance a.max_t f _ promised
