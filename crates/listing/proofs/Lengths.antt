@@ -13,7 +13,7 @@ use Rattle.scene.specs.Scene.{scene_of, safe_time_at}
 use Rattle.scene.proofs.Spelling.{few_pairs}
 use Rattle.text.specs.Text.{codes}
 use Rattle.text.proofs.Lengths.{decimal_short, length-hex}
-use Rattle.listing.specs.Listing.{spaced, timed, ending, line, lines, counted, listed, listing}
+use Rattle.listing.specs.Listing.{timed, ending, line, lines, counted, listed, listing}
 
 timed_short : (kind : List ℕ) (t : Float) (s : SafeTime) → length kind ≤ 10 → length (timed kind t s) ≤ 40
 unfolding timed

@@ -7,7 +7,7 @@ use Rattle.number.specs.declared.refusal.Refusal.{Refusal}
 use Rattle.scene.specs.declared.layout.Scene.{Scene}
 use Rattle.scene.specs.Scene.{scene_of}
 use Rattle.text.proofs.Puts.{as_text}
-use Rattle.listing.specs.Listing.{counted, listed, listing}
+use Rattle.listing.specs.Listing.{listed, listing}
 use Rattle.listing.proofs.put_listing.Goals as goal
 
 -- what is read of the file is what is listed
