@@ -87,11 +87,9 @@ pub(crate) fn worked(n: u32, turns: u32) -> Sheet
 {
     let mut s = Sheet { twice: 0, left: n };
     let mut place: u32 = 0x200_0000;
-    let mut done: u32 = 0;
-    while done < turns {
+    for _ in 0..turns {
         place = place >> 1;
         s = digit(s, place);
-        done += 1;
     }
     s
 }

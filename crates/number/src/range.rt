@@ -3,6 +3,8 @@
 ghost use Rattle.std.specs.Prelude.{◌≡◌};
 ghost use Rattle.number.specs.Number as Def;
 
+use crate::refusal::Refusal;
+
 // Neither NaN nor an infinity.
 pub fn is_finite(x: f32) -> bool
     ensures { result ≡ Def.is_finite x }
@@ -45,13 +47,18 @@ pub fn speed_range(x: f32) -> bool
     (8.673617379884035e-19 <= x) & (x <= 1.152921504606847e18)
 }
 
-// 1 before 2 before 0.
-pub fn verdict(finite: bool, ranged: bool) -> u32
-    ensures { result ≡ Def.refusal finite ranged }
+// Admitted, or refused: a number that is not finite is told before one beyond its range.
+#[tactic(auto, unfolding(crate::specs::Number::answered, crate::specs::Number::numbered))]
+pub fn verdict(finite: bool, ranged: bool) -> Result<(), Refusal>
+    ensures { result ≡ Def.answered (Def.refusal finite ranged) tt }
 {
     if finite {
-        if ranged { 0 } else { 2 }
+        if ranged {
+            Ok(())
+        } else {
+            Err(Refusal::BeyondRange)
+        }
     } else {
-        1
+        Err(Refusal::NotFinite)
     }
 }

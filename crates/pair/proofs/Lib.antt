@@ -1,4 +1,5 @@
 -- Laws that other crates cite. Assumes nothing.
+pub mod Passed
 pub mod Norms
 pub mod NormBounds
 pub mod StayFinite

@@ -1,11 +1,15 @@
 -- The numbers of an admitted call, as bounds. Assumes nothing.
-use mathlib.Core.Path.{◌≡◌}
-use mathlib.Core.Bool.{Bool, ◌&&◌}
+use Prim.Native.Nat.{ℕ}
+use mathlib.Core.Path.{◌≡◌, refl, sym, ap, ◌∙◌}
+use mathlib.Core.Bool.{Bool, true, ◌&&◌}
 use lib.Dec.{T}
 use lib.Ieee.{Float}
 use lib.Ieee.Fits.{and_i}
-use Rattle.number.specs.Number.{is_finite, in_bound, zero_to_bound, above_zero_to_one}
-use Rattle.number.proofs.Answers.{refusal_none}
+use Rattle.std.specs.Prelude.{Result, Ok, Err}
+use Rattle.number.specs.Number.{answered, admitted, numbered, is_finite, in_bound, zero_to_bound, above_zero_to_one}
+use Rattle.number.proofs.Answers.{refusal_none, ranged_none, taken, refused, refused_by}
+use Rattle.number.proofs.Answers as Answers
+use Rattle.number.specs.declared.refusal.Refusal.{Refusal}
 use Rattle.number.proofs.Comparing.{all_three, all_four}
 use Rattle.number.proofs.Within.{Within}
 use Rattle.number.proofs.Finite.{within_real, bound_real}
@@ -64,3 +68,24 @@ allowed_cubic p t epsilon e =
       above = r.0;
       small = r.2;
     }
+
+-- where the tests of the ranges are passed there is no refusal
+pub quadratic_none : (c0 c1 c2 : Float) → (in_bound c0 && in_bound c1 && in_bound c2) ≡ true
+    → quadratic_refusal c0 c1 c2 ≡ 0
+quadratic_none c0 c1 c2 h =
+    sym (ranged_none (is_finite c0 && is_finite c1 && is_finite c2) (in_bound c0 && in_bound c1 && in_bound c2)
+    (quadratic_real c0 c1 c2) h)
+
+pub cubic_none : (p : Cubic) (t epsilon : Float) → ranged_cubic p t epsilon ≡ true → cubic_refusal p t epsilon ≡ 0
+cubic_none p t epsilon h =
+    sym (ranged_none (finite_cubic p t epsilon) (ranged_cubic p t epsilon) (cubic_real p t epsilon) h)
+
+-- what a finder answers, by what its admission did
+module _ {A B : Type 0} (n : ℕ) (v : A) (given : Result B Refusal) where
+  pub goes_in : (w : A) → answered n v ≡ Ok w → given ≡ admitted n given (Err (numbered n))
+  goes_in w h = taken given (Err (numbered n)) n n refl (Answers.given n v w h).0
+
+  pub stays_out : (r : Refusal) → answered n v ≡ Err r → Err r ≡ admitted n given (Err (numbered n))
+  stays_out r h =
+      let k = refused_by n v r h in
+      ap (λ (r : Refusal). Err r) (sym k.1) ∙ refused given (Err (numbered n)) n n refl k.0

@@ -8,12 +8,12 @@ use mathlib.Core.Bool.{Bool, true, false, cond}
 use lib.Dec.{T, lt→ltb, lit≤}
 use lib.Ieee.{Float, fin, binary32, up, down, lt, le, eq, fits, of_bits, inf, nan}
 use lib.Ieee.Fits.{down_pos, mul-fits}
+use Rattle.std.specs.Prelude.{Some}
 use Rattle.number.specs.Number.{◌⊗◌, zero32, size, smaller, larger}
 use Rattle.number.proofs.Within.{Within, within_more, mul_within}
 use Rattle.number.proofs.Comparing.{lt_le}
 use Rattle.polynomial_root.specs.Roots.{two32, solved, three32, vanishes}
 use Rattle.polynomial_root.specs.declared.cubic.Cubic.{Cubic}
-use Rattle.polynomial_root.specs.declared.quadratic.Solved.TheVariants.{Both}
 use Rattle.polynomial_root.proofs.Defined.{two_within, three_within}
 use Rattle.polynomial_root.proofs.Multiples.{not_so, thrice_some}
 use Rattle.polynomial_root.proofs.Zeros.{eq_zero}
@@ -54,7 +54,7 @@ ends_ordered t e0 e1 above order low high = go (lt zero32 e0) (lt e1 t)
     go false false = lt_le zero32 t above
 
 pub middle_ordered : (p : Cubic) (t e0 e1 : Float) → Allowed p t → T (fits binary32 p.c3)
-    → vanishes p.c3 ≡ false → solved p.c1 (two32 ⊗ p.c2) (three32 ⊗ p.c3) ≡ Both e0 e1
+    → vanishes p.c3 ≡ false → solved p.c1 (two32 ⊗ p.c2) (three32 ⊗ p.c3) ≡ Some (e0, e1)
     → T (le e0 t) → T (le zero32 e1) → T (le (larger zero32 e0) (smaller t e1))
 middle_ordered p t e0 e1 h f v s low high =
     ends_ordered t e0 e1 h.above (subst InOrder s (slope_ordered p t h f v)).order low high

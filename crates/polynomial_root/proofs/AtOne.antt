@@ -8,6 +8,7 @@ use lib.Ieee.{Float, nan, inf, fin, binary32, add, sub, mul, div, neg, lt, le, f
 use lib.Ieee.Bits.{of_bits-fits}
 use lib.Ieee.Fits.{div-fits}
 use lib.Ieee.Scale.{finite}
+use Rattle.std.specs.Prelude.{Ok}
 use Rattle.number.specs.Number.{◌⊗◌, zero32, one32, clamp}
 use Rattle.number.proofs.Unmoved.{times_one}
 use Rattle.polynomial_root.specs.Roots.{none, refused, push, both_zero, opposite, fraction, linear_roots}
@@ -54,8 +55,8 @@ unfolding linear_roots
 linear_at_one a b f g = go (opposite a b) (both_zero a b) refl refl
   where
     go : (o z : Bool) → opposite a b ≡ o → both_zero a b ≡ z
-        → cond o (cond z (refused 6) (push none (held (fraction a b)))) none
-        ≡ cond o (cond z (refused 6) (push none (fraction a b))) none
+        → cond o (cond z (refused 6) (Ok (push none (held (fraction a b))))) (Ok none)
+        ≡ cond o (cond z (refused 6) (Ok (push none (fraction a b)))) (Ok none)
     go true true i j = refl
-    go true false i j = ap (push none) (held_fraction a b f g i j)
+    go true false i j = ap (λ x. Ok (push none x)) (held_fraction a b f g i j)
     go false z i j = refl

@@ -2,70 +2,54 @@
 -- and the spans one after another. Assumes nothing.
 use mathlib.Core.Path.{◌≡◌, refl}
 use mathlib.Core.Bool.{Bool, true, false, cond}
-use lib.Dec.{eqb}
 use lib.Ieee.{Float}
-use borrow.Author.Tests.{eqb-true}
+use Rattle.std.specs.Prelude.{Option, None, Some, Result, Ok, Err, IfOk, IfSome}
 use Rattle.number.specs.Number.{zero32, between, written}
+use Rattle.number.specs.declared.refusal.Refusal.{Refusal}
 use Rattle.polynomial_root.specs.Roots.{none, push, keep, kept_roots, joined, after, solved_roots}
 use Rattle.polynomial_root.specs.declared.answer.Roots.{Roots}
-use Rattle.polynomial_root.specs.declared.newton.Found.{Found}
-use Rattle.polynomial_root.specs.declared.newton.Found.TheVariants.{Root, Nothing, Refused}
-use Rattle.polynomial_root.specs.declared.quadratic.Solved.{Solved}
-use Rattle.polynomial_root.specs.declared.quadratic.Solved.TheVariants.{Neither, Both}
-use Rattle.polynomial_root.proofs.Places.{Holds, refused_holds, push_holds, push_refusal}
+use Rattle.polynomial_root.proofs.Places.{Holds, none_holds, push_holds}
 
--- what a span or a quadratic gives has the property
-abbrev pub Gives : (Float → Type 0) → Found → Type 0
-Gives P (Root r) = P (written r)
-Gives P Nothing = Unit
-Gives P (Refused n) = Unit
+-- what Newton's steps, a span or a quadratic gives has the property
+abbrev pub Finds : (Float → Type 0) → Result Float Refusal → Type 0
+Finds P f = IfOk f (λ r. P (written r))
 
-abbrev pub Solves : (Float → Type 0) → Solved → Type 0
-Solves P Neither = Unit
-Solves P (Both a b) = P (written a) × P (written b)
+abbrev pub Gives : (Float → Type 0) → Result (Option Float) Refusal → Type 0
+Gives P f = IfOk f (λ o. IfSome o (λ r. P (written r)))
+
+abbrev pub Solves : (Float → Type 0) → Option (Float × Float) → Type 0
+Solves P s = IfSome s (λ e. P (written e.0) × P (written e.1))
 
 module _ (P : Float → Type 0) where
-  pub solved_holds : (s : Solved) → Solves P s → Holds P (solved_roots s)
+  pub solved_holds : (s : Option (Float × Float)) → Solves P s → Holds P (solved_roots s)
   unfolding solved_roots
-  solved_holds Neither h = refused_holds P 0
-  solved_holds (Both a b) (p, q) =
-      push_holds P (push none a) b (push_refusal none a) (push_holds P none a refl (refused_holds P 0) p) q
+  solved_holds None h = none_holds P
+  solved_holds (Some (a, b)) (p, q) = push_holds P (push none a) b (push_holds P none a (none_holds P) p) q
 
   -- ---- the spans one after another
-  joined_holds : (a : Roots) (f : Found) → a.refusal ≡ 0 → Holds P a → Gives P f → Holds P (joined a f)
+  joined_holds : (a : Roots) (f : Option Float) → Holds P a → Gives P (Ok f) → Holds P (joined a f)
   unfolding joined
-  joined_holds a (Root r) z h g = push_holds P a r z h g
-  joined_holds a Nothing z h g = h
-  joined_holds a (Refused n) z h g = refused_holds P n
+  joined_holds a None h g = h
+  joined_holds a (Some r) h g = push_holds P a r h g
 
-  pub after_holds : (a : Roots) (f : Found) → Holds P a → Gives P f → Holds P (after a f)
+  pub after_holds : (a : Result Roots Refusal) (f : Result (Option Float) Refusal) → IfOk a (Holds P) → Gives P f
+      → IfOk (after a f) (Holds P)
   unfolding after
-  after_holds a f h g = go (eqb a.refusal 0) (eqb-true a.refusal 0)
-    where
-      go : (b : Bool) → (b ≡ true → a.refusal ≡ 0) → Holds P (cond b (joined a f) a)
-      go true z = joined_holds a f (z refl) h g
-      go false z = h
+  after_holds (Err n) f h g = h
+  after_holds (Ok a) (Err n) h g = g
+  after_holds (Ok a) (Ok f) h g = joined_holds a f h g
 
   -- ---- the quadratic's roots in 0..t
   module _ (t : Float) (fine : (r : Float) → between zero32 t r ≡ true → P (written r)) where
-    keep_holds : (a : Roots) (r : Float) → a.refusal ≡ 0 → Holds P a → Holds P (keep t a r)
+    keep_holds : (a : Roots) (r : Float) → Holds P a → Holds P (keep t a r)
     unfolding keep
-    keep_holds a r z h = go (between zero32 t r) (fine r)
+    keep_holds a r h = go (between zero32 t r) (fine r)
       where
         go : (b : Bool) → (b ≡ true → P (written r)) → Holds P (cond b (push a r) a)
-        go true p = push_holds P a r z h (p refl)
+        go true p = push_holds P a r h (p refl)
         go false p = h
 
-    keep_refusal : (a : Roots) (r : Float) → (keep t a r).refusal ≡ a.refusal
-    unfolding keep
-    keep_refusal a r = go (between zero32 t r)
-      where
-        go : (b : Bool) → (cond b (push a r) a).refusal ≡ a.refusal
-        go true = push_refusal a r
-        go false = refl
-
-    pub kept_holds : (s : Solved) → Holds P (kept_roots t s)
+    pub kept_holds : (s : Option (Float × Float)) → Holds P (kept_roots t s)
     unfolding kept_roots
-    kept_holds Neither = refused_holds P 0
-    kept_holds (Both a b) =
-        keep_holds (keep t none a) b (keep_refusal none a) (keep_holds none a refl (refused_holds P 0))
+    kept_holds None = none_holds P
+    kept_holds (Some (a, b)) = keep_holds (keep t none a) b (keep_holds none a (none_holds P))

@@ -7,13 +7,12 @@ use lib.Dec.{T, lit≤}
 use lib.Ieee.{Float, fin, binary32, neg, lt, le, eq, is_nan, fits, of_bits, inf, nan}
 use lib.Ieee.Fits.{sub-fits}
 use lib.Ieee.Scale.{finite}
+use Rattle.std.specs.Prelude.{Option, None, Some, IfSome}
 use Rattle.number.specs.Number.{◌⊕◌, ◌⊖◌, ◌⊗◌, ◌⊘◌, zero32, one32, root_of}
 use Rattle.number.proofs.Within.{Within, within_finite, within_more, add_within, sub_within, mul_within}
 use Rattle.number.proofs.Comparing.{not_lt_le, lt_le}
 use Rattle.number.proofs.SquareRoot.Bounds.{root_within}
 use Rattle.polynomial_root.specs.Roots.{two32, stable, in_order, solved}
-use Rattle.polynomial_root.specs.declared.quadratic.Solved.{Solved}
-use Rattle.polynomial_root.specs.declared.quadratic.Solved.TheVariants.{Neither, Both}
 use Rattle.polynomial_root.proofs.Orders.{test_true}
 use Rattle.polynomial_root.proofs.Multiples.{twice_some}
 use Rattle.polynomial_root.proofs.Defined.{quotient_no_nan, two_within}
@@ -24,9 +23,8 @@ pub record Ordered (a b : Float) : Type 0 where
   pub second : T (not (is_nan b))
   pub order : T (le a b)
 
-abbrev pub InOrder : Solved → Type 0
-InOrder Neither = Unit
-InOrder (Both a b) = Ordered a b
+abbrev pub InOrder : Option (Float × Float) → Type 0
+InOrder s = IfSome s (λ e. Ordered e.0 e.1)
 
 no_right : (b : Bool) {c : Bool} → c ≡ false → (b && c) ≡ false
 no_right true h = h
@@ -107,10 +105,10 @@ module _ (c0 c1 c2 : Float) (f : T (fits binary32 c2)) (w0 : Within 22 c0) (w1 :
   unfolding solved
   solved_ordered = go (lt (discriminant c0 c1 c2) zero32)
     where
-      sort : (a b : Float) → T (not (is_nan a)) → T (not (is_nan b)) → InOrder (in_order a b)
+      sort : (a b : Float) → T (not (is_nan a)) → T (not (is_nan b)) → InOrder (Some (in_order a b))
       sort a b p q = pick (lt a b) refl
         where
-          pick : (c : Bool) → lt a b ≡ c → InOrder (cond c (Both a b) (Both b a))
+          pick : (c : Bool) → lt a b ≡ c → InOrder (Some (cond c (a, b) (b, a)))
           pick true h = record { first = p; second = q; order = lt_le a b (test_true h) }
           pick false h = record {
             first = q;
@@ -118,6 +116,6 @@ module _ (c0 c1 c2 : Float) (f : T (fits binary32 c2)) (w0 : Within 22 c0) (w1 :
             order = not_lt_le a b p q (subst (λ (c : Bool). T (not c)) (sym h) tt);
           }
 
-      go : (b : Bool) → InOrder (cond b Neither (in_order (other c0 c2 s) (direct c2 s)))
+      go : (b : Bool) → InOrder (cond b None (Some (in_order (other c0 c2 s) (direct c2 s))))
       go true = tt
       go false = sort (other c0 c2 s) (direct c2 s) other_number direct_number

@@ -8,7 +8,7 @@ use lib.Seq.{get_or-set_same, get_or-set_other}
 use lib.Ieee.{Float, nan}
 use borrow.Author.Tests.{le-ltb, lt-ltb}
 use Rattle.number.specs.Number.{zero32, written}
-use Rattle.polynomial_root.specs.Roots.{refused, push, Tidy, Each}
+use Rattle.polynomial_root.specs.Roots.{none, push, Tidy, Each}
 use Rattle.polynomial_root.specs.declared.answer.Roots.{Roots}
 
 -- tidy, with a property of each root
@@ -16,26 +16,21 @@ pub record Holds (P : Float → Type 0) (a : Roots) : Type 0 where
   pub tidy : Tidy a
   pub each : Each P a
 
-pub refused_tidy : (n : ℕ) → Tidy (refused n)
-refused_tidy n = record {
-  few = zero-le;
-  places = refl;
-  unused = zeros;
-  refused_empty = λ _. refl;
-}
+none_tidy : Tidy none
+none_tidy = record { few = zero-le; places = refl; unused = zeros }
   where
-    zeros : (i : ℕ) → 0 ≤ i → i < 3 → get_or (refused n).roots i nan ≡ zero32
+    zeros : (i : ℕ) → 0 ≤ i → i < 3 → get_or none.roots i nan ≡ zero32
     zeros zero h l = refl
     zeros (suc zero) h l = refl
     zeros (suc (suc zero)) h l = refl
     zeros (suc (suc (suc i))) h l = absurd (omega arith)
 
-pub refused_holds : (P : Float → Type 0) (n : ℕ) → Holds P (refused n)
-refused_holds P n = record { tidy = refused_tidy n; each = λ i h. absurd (omega arith) }
+pub none_holds : (P : Float → Type 0) → Holds P none
+none_holds P = record { tidy = none_tidy; each = λ i h. absurd (omega arith) }
 
 -- ---- a root more
 abbrev one_more : Roots → Float → Roots
-one_more a r = record { refusal = a.refusal; count = a.count + 1; roots = set a.roots a.count (written r) }
+one_more a r = record { count = a.count + 1; roots = set a.roots a.count (written r) }
 
 push_room : (a : Roots) (r : Float) → a.count < 3 → push a r ≡ one_more a r
 unfolding push
@@ -70,28 +65,15 @@ module _ (P : Float → Type 0) (a : Roots) (r : Float) (h : Holds P a) (room : 
           subst (λ (k : ℕ). P (get_or (one_more a r).roots k nan)) (sym (last n))
           (subst P (sym (get_or-set_same a.roots a.count (written r) nan in_place)) p)
 
-  more_holds : a.refusal ≡ 0 → P (written r) → Holds P (one_more a r)
-  more_holds z p = record {
-    tidy = record {
-      few = omega arith;
-      places = place;
-      unused = later;
-      refused_empty = λ n. absurd (n z);
-    };
+  more_holds : P (written r) → Holds P (one_more a r)
+  more_holds p = record {
+    tidy = record { few = omega arith; places = place; unused = later };
     each = each_more p;
   }
 
-pub push_holds : (P : Float → Type 0) (a : Roots) (r : Float) → a.refusal ≡ 0 → Holds P a → P (written r)
-    → Holds P (push a r)
-push_holds P a r z h p = go (dec_lt a.count 3)
+pub push_holds : (P : Float → Type 0) (a : Roots) (r : Float) → Holds P a → P (written r) → Holds P (push a r)
+push_holds P a r h p = go (dec_lt a.count 3)
   where
     go : Dec (a.count < 3) → Holds P (push a r)
-    go (yes l) = rw (push_room a r l) (more_holds P a r h l z p)
+    go (yes l) = rw (push_room a r l) (more_holds P a r h l p)
     go (no n) = rw (push_full a r (omega arith)) h
-
-pub push_refusal : (a : Roots) (r : Float) → (push a r).refusal ≡ a.refusal
-push_refusal a r = go (dec_lt a.count 3)
-  where
-    go : Dec (a.count < 3) → (push a r).refusal ≡ a.refusal
-    go (yes l) = rw (push_room a r l)
-    go (no n) = rw (push_full a r (omega arith))

@@ -5,21 +5,20 @@ use mathlib.Core.Bool.{Bool, true, false, cond, ◌&&◌, ◌||◌}
 use lib.Dec.{T}
 use lib.Ieee.{Float, lt, le, eq}
 use lib.Ieee.Fits.{and_i, and_l}
+use Rattle.std.specs.Prelude.{Option, None, Some, Result, Ok, Err, IfOk}
 use Rattle.number.specs.Number.{◌⊖◌, ◌⊗◌, ◌⊘◌, zero32, size, smaller, larger, between}
+use Rattle.number.specs.declared.refusal.Refusal.{Refusal}
 use Rattle.number.proofs.Within.{Within, within_finite}
 use Rattle.number.proofs.Comparing.{lt_le}
-use Rattle.polynomial_root.specs.Roots.{none, value_at, slope_at, stepped, both_zero, descend, newton_steps}
-use Rattle.polynomial_root.specs.Roots.{started, end_at, span_root, start, part_root, span_roots}
+use Rattle.polynomial_root.specs.Roots.{none, refused, value_at, slope_at, stepped, both_zero, descend, newton_steps}
+use Rattle.polynomial_root.specs.Roots.{started, end_at, found, span_root, start, part_root, span_roots}
 use Rattle.polynomial_root.specs.declared.cubic.Cubic.{Cubic}
-use Rattle.polynomial_root.specs.declared.newton.Found.TheVariants.{Root, Nothing, Refused}
-use Rattle.polynomial_root.specs.declared.quadratic.Solved.{Solved}
-use Rattle.polynomial_root.specs.declared.quadratic.Solved.TheVariants.{Neither, Both}
 use Rattle.polynomial_root.specs.declared.span.End.{End}
 use Rattle.polynomial_root.proofs.Orders.{test_true, zero_in_range, written_in_range, clamp_in_range}
 use Rattle.polynomial_root.proofs.Orders.{within_range}
 use Rattle.polynomial_root.proofs.Defined.{quotient_no_nan, difference_no_nan, value_within, slope_within}
-use Rattle.polynomial_root.proofs.Places.{Holds, refused_holds}
-use Rattle.polynomial_root.proofs.Gathered.{Gives, after_holds}
+use Rattle.polynomial_root.proofs.Places.{Holds, none_holds}
+use Rattle.polynomial_root.proofs.Gathered.{Finds, Gives, after_holds}
 
 -- coefficients of size 2 ^ 20 at most, and a range from 0 to 1 at most
 pub record Allowed (p : Cubic) (t : Float) : Type 0 where
@@ -43,27 +42,31 @@ module _ (p : Cubic) (t epsilon : Float) (h : Allowed p t) where
       (difference_no_nan r (value_at p r ⊘ slope_at p r) (within_finite 0 r w)
       (quotient_no_nan (value_at p r) (slope_at p r) v s n))
 
-  descend_in_range : (k : ℕ) (r : Float) → In r → Gives In (descend p t epsilon k r)
+  descend_in_range : (k : ℕ) (r : Float) → In r → Finds In (descend p t epsilon k r)
   unfolding descend
   descend_in_range zero r i = written_in_range t h.above r i
   descend_in_range (suc k) r i =
       go (lt (size (value_at p r)) epsilon) (both_zero (value_at p r) (slope_at p r))
       (λ n. descend_in_range k (stepped p t r) (step_in_range r i n))
     where
-      go : (a b : Bool) → (b ≡ false → Gives In (descend p t epsilon k (stepped p t r)))
-          → Gives In (cond a (Root r) (cond b (Refused 8) (descend p t epsilon k (stepped p t r))))
+      go : (a b : Bool) → (b ≡ false → Finds In (descend p t epsilon k (stepped p t r)))
+          → Finds In (cond a (Ok r) (cond b (refused 8) (descend p t epsilon k (stepped p t r))))
       go true b f = written_in_range t h.above r i
       go false true f = tt
       go false false f = f refl
 
-  started_in_range : (r : Float) → Gives In (started p t epsilon r)
+  started_in_range : (r : Float) → Finds In (started p t epsilon r)
   unfolding started
   started_in_range r = go (between zero32 t r) (λ e. descend_in_range newton_steps r (test_true e))
     where
-      go : (b : Bool) → (b ≡ true → Gives In (descend p t epsilon newton_steps r))
-          → Gives In (cond b (descend p t epsilon newton_steps r) (Refused 7))
+      go : (b : Bool) → (b ≡ true → Finds In (descend p t epsilon newton_steps r))
+          → Finds In (cond b (descend p t epsilon newton_steps r) (refused 7))
       go true f = f refl
       go false f = tt
+
+  found_in_range : (f : Result Float Refusal) → Finds In f → Gives In (found f)
+  found_in_range (Ok r) g = g
+  found_in_range (Err n) g = g
 
   span_in_range : (a b : End) → In a.x → Gives In (span_root p t epsilon a b)
   unfolding span_root
@@ -75,13 +78,13 @@ module _ (p : Cubic) (t epsilon : Float) (h : Allowed p t) where
       secant = (a.f ⊗ b.x ⊖ b.f ⊗ a.x) ⊘ (a.f ⊖ b.f)
 
       go : (o s z d : Bool)
-          → Gives In (cond o Nothing (cond s (cond z (Root a.x) Nothing)
-          (cond d (Refused 6) (started p t epsilon secant))))
+          → Gives In (cond o (Ok None) (cond s (Ok (cond z (Some a.x) None))
+          (cond d (refused 6) (found (started p t epsilon secant)))))
       go true s z d = tt
       go false true true d = written_in_range t h.above a.x i
       go false true false d = tt
       go false false z true = tt
-      go false false z false = started_in_range secant
+      go false false z false = found_in_range (started p t epsilon secant) (started_in_range secant)
 
   larger_in_range : (e : Float) → T (le e t) → In (larger zero32 e)
   unfolding larger
@@ -95,12 +98,12 @@ module _ (p : Cubic) (t epsilon : Float) (h : Allowed p t) where
   part_in_range true a b i = span_in_range a b (i refl)
   part_in_range false a b i = tt
 
-  pub spans_in_range : (s : Solved) → Holds In (span_roots p t epsilon s)
+  pub spans_in_range : (s : Option (Float × Float)) → IfOk (span_roots p t epsilon s) (Holds In)
   unfolding span_roots
-  spans_in_range Neither =
-      after_holds In none (span_root p t epsilon (start p) (end_at p t)) (refused_holds In 0)
+  spans_in_range None =
+      after_holds In (Ok none) (span_root p t epsilon (start p) (end_at p t)) (none_holds In)
       (span_in_range (start p) (end_at p t) (zero_in_range t h.above))
-  spans_in_range (Both e0 e1) =
+  spans_in_range (Some (e0, e1)) =
       let there = le e0 t && le zero32 e1 in
       let first = part_in_range (le zero32 e0) (start p) (end_at p (smaller t e0)) (λ e. zero_in_range t h.above) in
       let middle =
@@ -108,4 +111,4 @@ module _ (p : Cubic) (t epsilon : Float) (h : Allowed p t) where
       (λ e. larger_in_range e0 (and_l (le e0 t) (le zero32 e1) (test_true e))) in
       let last =
       part_in_range (le e1 t) (end_at p (larger zero32 e1)) (end_at p t) (λ e. larger_in_range e1 (test_true e)) in
-      after_holds In _ _ (after_holds In _ _ (after_holds In none _ (refused_holds In 0) first) middle) last
+      after_holds In _ _ (after_holds In _ _ (after_holds In (Ok none) _ (none_holds In) first) middle) last

@@ -4,38 +4,43 @@ ghost use Rattle.polynomial_root.specs.Roots as Def;
 
 use number::order::written;
 
-// The roots in the first `count` places, zero in the others; `refusal` 0, or the number of a refusal and no root.
-#[repr(C)]
+// The roots in the first `count` places, zero in the others.
 #[derive(Clone, Copy)]
 pub struct Roots {
-    pub refusal: u32,
     pub count: u32,
     pub roots: [f32; 3],
 }
 
-pub fn refused(number: u32) -> Roots
-    ensures { result ≡ Def.refused number }
-{
-    Roots {
-        refusal: number,
-        count: 0,
-        roots: [0.0; 3],
+impl Roots {
+    pub fn none() -> Roots
+        ensures { result ≡ Def.none }
+    {
+        Roots {
+            count: 0,
+            roots: [0.0; 3],
+        }
     }
-}
 
-// One root more, in the next place; a full answer stands.
-pub(crate) fn push(a: Roots, r: f32) -> Roots
-    ensures { result ≡ Def.push a r }
-{
-    let n = a.count;
-    if 3 <= n {
-        return a;
+    // One root more, in the next place; a full answer stands.
+    #[tactic(auto, unfolding(crate::specs::Roots::push))]
+    pub(crate) fn push(mut self, r: f32) -> Roots
+        ensures { result ≡ Def.push self r }
+    {
+        if self.count < 3 {
+            self.roots[self.count as usize] = written(r);
+            self.count += 1;
+        }
+        self
     }
-    let mut roots = a.roots;
-    roots[n as usize] = written(r);
-    Roots {
-        refusal: a.refusal,
-        count: n + 1,
-        roots,
+
+    // With what one more span gave.
+    #[tactic(auto, unfolding(crate::specs::Roots::joined))]
+    pub(crate) fn joined(self, found: Option<f32>) -> Roots
+        ensures { result ≡ Def.joined self found }
+    {
+        match found {
+            Some(r) => self.push(r),
+            None => self,
+        }
     }
 }

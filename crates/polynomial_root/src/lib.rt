@@ -9,31 +9,31 @@ pub mod cubic;
 mod lower;
 mod newton;
 mod quadratic;
+mod search;
 mod span;
 
-ghost use Rattle.std.specs.Prelude.{◌≡◌};
+ghost use Rattle.std.specs.Prelude.{◌≡◌, IfOk};
 ghost use Rattle.polynomial_root.specs.Roots.{cubic_of, Tidy, NoNan, NoneOrTwo, InRange};
 ghost use Rattle.polynomial_root.specs.Roots.{OriginalAtOne, quadratic_root, cubic_roots_in_range};
 
-use admission::{admit_cubic, admit_quadratic};
-use answer::{Roots, refused};
+use admission::admit_quadratic;
+use answer::Roots;
 use cubic::Cubic;
+use number::refusal::Refusal;
+use search::Search;
 
 // The roots of c0 + c1 x + c2 x²: none or two, the smaller first. Refusals 1, 2, 9.
-pub fn quadratic_root(c0: f32, c1: f32, c2: f32) -> Roots
+pub fn quadratic_root(c0: f32, c1: f32, c2: f32) -> Result<Roots, Refusal>
     ensures answer { result ≡ quadratic_root c0 c1 c2 }
-    ensures tidy { Tidy result }
-    ensures numbers { NoNan result }
-    ensures two { NoneOrTwo result }
+    ensures tidy { IfOk result Tidy }
+    ensures numbers { IfOk result NoNan }
+    ensures two { IfOk result NoneOrTwo }
 {
-    let refusal = admit_quadratic(c0, c1, c2);
-    if refusal != 0 {
-        return refused(refusal);
-    }
+    admit_quadratic(c0, c1, c2)?;
     if c2 == 0.0 {
-        return refused(9);
+        return Err(Refusal::NotQuadratic);
     }
-    quadratic::all_roots(quadratic::solve(c0, c1, c2))
+    Ok(quadratic::all_roots(quadratic::solve(c0, c1, c2)))
 }
 
 // The roots in 0..t of c0 + c1 x + c2 x² + c3 x³, in the order of the spans. Refusals 1, 2, 6, 7, 8.
@@ -44,17 +44,14 @@ pub fn cubic_roots_in_range_zero_to_t(
     c3: f32,
     t: f32,
     epsilon: f32,
-) -> Roots
+) -> Result<Roots, Refusal>
     ensures answer { result ≡ cubic_roots_in_range (cubic_of c0 c1 c2 c3) t epsilon }
-    ensures tidy { Tidy result }
-    ensures range { InRange t result }
+    ensures tidy { IfOk result Tidy }
+    ensures range { IfOk result (InRange t) }
     ensures original { OriginalAtOne (cubic_of c0 c1 c2 c3) t epsilon result }
 {
     let p = Cubic { c0, c1, c2, c3 };
-    let refusal = admit_cubic(p, t, epsilon);
-    if refusal == 0 {
-        cubic::cubic_roots(p, t, epsilon)
-    } else {
-        refused(refusal)
-    }
+    let search = Search { p, t, epsilon };
+    search.admit()?;
+    search.roots()
 }

@@ -1,50 +1,43 @@
-// Newton's steps on a cubic (polynomial_root.rs, `eval_f` and the loop of `newton`).
+// Newton's steps on a cubic (polynomial_root.rs, the loop of `newton`).
 ghost use Rattle.std.specs.Prelude.{◌≡◌};
 ghost use Rattle.polynomial_root.specs.Roots as Def;
 
-use crate::cubic::Cubic;
+use crate::search::Search;
 use number::order::{clamp, size};
-
-// What a search for one root gives: the root, none, or the number of a refusal.
-#[derive(Clone, Copy)]
-pub enum Found {
-    Root(f32),
-    Nothing,
-    Refused(u32),
-}
-
-pub(crate) fn value_at(p: Cubic, r: f32) -> f32
-    ensures { result ≡ Def.value_at p r }
-{
-    ((p.c3 * r + p.c2) * r + p.c1) * r + p.c0
-}
-
-pub(crate) fn slope_at(p: Cubic, r: f32) -> f32
-    ensures { result ≡ Def.slope_at p r }
-{
-    p.c1 + 2.0 * p.c2 * r + 3.0 * p.c3 * r * r
-}
+use number::refusal::Refusal;
 
 // How many steps at most.
 const NEWTON_STEPS: u32 = 20;
 
-// At most so many steps from the guess, held to 0..t, until the value's size is below epsilon.
-pub(crate) fn descend(p: Cubic, t: f32, epsilon: f32, guess: f32) -> Found
-    ensures { result ≡ Def.descend p t epsilon Def.newton_steps guess }
-{
-    let mut r = guess;
-    let mut i: u32 = 0;
-    while i < NEWTON_STEPS {
-        let f = value_at(p, r);
-        if size(f) < epsilon {
-            return Found::Root(r);
+impl Search {
+    // At most so many steps from the guess, held to 0..t, until the value's size is below epsilon.
+    fn descend(self, guess: f32) -> Result<f32, Refusal>
+        ensures { result ≡ Def.descend self.p self.t self.epsilon Def.newton_steps guess }
+    {
+        let mut r = guess;
+        for _ in 0..NEWTON_STEPS {
+            let f = self.p.value_at(r);
+            if size(f) < self.epsilon {
+                return Ok(r);
+            }
+            let d = self.p.slope_at(r);
+            if (f == 0.0) & (d == 0.0) {
+                return Err(Refusal::NoSlope);
+            }
+            r = clamp(r - f / d, 0.0, self.t);
         }
-        let d = slope_at(p, r);
-        if (f == 0.0) & (d == 0.0) {
-            return Found::Refused(8);
-        }
-        r = clamp(r - f / d, 0.0, t);
-        i += 1;
+        Ok(r)
     }
-    Found::Root(r)
+
+    // Newton's steps from a guess in 0..t.
+    #[tactic(auto, unfolding(crate::specs::Roots::started, number::specs::Number::numbered))]
+    pub(crate) fn started(self, guess: f32) -> Result<f32, Refusal>
+        ensures { result ≡ Def.started self.p self.t self.epsilon guess }
+    {
+        if (0.0 <= guess) & (guess <= self.t) {
+            self.descend(guess)
+        } else {
+            Err(Refusal::GuessOutside)
+        }
+    }
 }

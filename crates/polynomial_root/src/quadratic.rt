@@ -4,24 +4,14 @@ ghost use Rattle.std.specs.Float.Ieee.{lt, neg};
 ghost use Rattle.number.specs.Number.{zero32, one32};
 ghost use Rattle.polynomial_root.specs.Roots as Def;
 
-use crate::answer::{Roots, push, refused};
+use crate::answer::Roots;
 use number::root::root;
 
-// None or two, the smaller first.
-#[derive(Clone, Copy)]
-pub enum Solved {
-    Neither,
-    Both(f32, f32),
-}
-
-fn in_order(a: f32, b: f32) -> Solved
+// The smaller first.
+fn in_order(a: f32, b: f32) -> (f32, f32)
     ensures { result ≡ Def.in_order a b }
 {
-    if a < b {
-        Solved::Both(a, b)
-    } else {
-        Solved::Both(b, a)
-    }
+    if a < b { (a, b) } else { (b, a) }
 }
 
 // The sign of c1 as a factor; a zero's is plus.
@@ -38,29 +28,28 @@ fn stable(c1: f32, d: f32) -> f32
     -(c1 + sign_of(c1) * root(d))
 }
 
-// The roots of c0 + c1 x + c2 x².
-pub(crate) fn solve(c0: f32, c1: f32, c2: f32) -> Solved
+// The roots of c0 + c1 x + c2 x², none or two.
+#[tactic(auto, unfolding(crate::specs::Roots::solved))]
+pub(crate) fn solve(c0: f32, c1: f32, c2: f32) -> Option<(f32, f32)>
     ensures { result ≡ Def.solved c0 c1 c2 }
 {
     let d = c1 * c1 - 4.0 * c2 * c0;
     if d < 0.0 {
-        return Solved::Neither;
+        return None;
     }
     let s = stable(c1, d);
     let direct = s / (2.0 * c2);
-    if s == 0.0 {
-        in_order(direct, direct)
-    } else {
-        in_order(2.0 * c0 / s, direct)
-    }
+    let other = if s == 0.0 { direct } else { 2.0 * c0 / s };
+    Some(in_order(other, direct))
 }
 
 // The roots as an answer.
-pub(crate) fn all_roots(s: Solved) -> Roots
-    ensures { result ≡ Def.solved_roots s }
+#[tactic(auto, unfolding(crate::specs::Roots::solved_roots))]
+pub(crate) fn all_roots(solved: Option<(f32, f32)>) -> Roots
+    ensures { result ≡ Def.solved_roots solved }
 {
-    match s {
-        Solved::Neither => refused(0),
-        Solved::Both(a, b) => push(push(refused(0), a), b),
+    match solved {
+        Some((a, b)) => Roots::none().push(a).push(b),
+        None => Roots::none(),
     }
 }

@@ -2,8 +2,8 @@
 ghost use Rattle.std.specs.Prelude.{◌≡◌};
 ghost use Rattle.polynomial_root.specs.Roots as Def;
 
-use crate::cubic::Cubic;
-use crate::newton::{Found, descend, value_at};
+use crate::search::Search;
+use number::refusal::Refusal;
 
 // The end of a span: its place and the value there.
 #[derive(Clone, Copy)]
@@ -12,46 +12,53 @@ pub struct End {
     pub f: f32,
 }
 
-pub(crate) fn end_at(p: Cubic, x: f32) -> End
-    ensures { result ≡ Def.end_at p x }
-{
-    End {
-        x,
-        f: value_at(p, x),
+impl Search {
+    pub(crate) fn end_at(self, x: f32) -> End
+        ensures { result ≡ Def.end_at self.p x }
+    {
+        End {
+            x,
+            f: self.p.value_at(x),
+        }
     }
-}
 
-// Newton's steps from a guess in 0..t.
-fn started(p: Cubic, t: f32, epsilon: f32, guess: f32) -> Found
-    ensures { result ≡ Def.started p t epsilon guess }
-{
-    if (0.0 <= guess) & (guess <= t) {
-        descend(p, t, epsilon, guess)
-    } else {
-        Found::Refused(7)
+    // The lower end of 0..t: the value at zero is c0.
+    pub(crate) fn start(self) -> End
+        ensures { result ≡ Def.start self.p }
+    {
+        End {
+            x: 0.0,
+            f: self.p.c0,
+        }
     }
-}
 
-// The root between two ends: none where the values lie on one side of zero.
-pub(crate) fn span_root(p: Cubic, t: f32, epsilon: f32, a: End, b: End) -> Found
-    ensures { result ≡ Def.span_root p t epsilon a b }
-{
-    let fa = a.f;
-    let fb = b.f;
-    if ((fa < 0.0) & (fb < 0.0)) | ((0.0 < fa) & (0.0 < fb)) {
-        return Found::Nothing;
+    // The root between two ends: none where the values lie on one side of zero.
+    #[tactic(auto, unfolding(crate::specs::Roots::span_root, number::specs::Number::numbered))]
+    pub(crate) fn span_root(self, a: End, b: End) -> Result<Option<f32>, Refusal>
+        ensures { result ≡ Def.span_root self.p self.t self.epsilon a b }
+    {
+        let End { x: xa, f: fa } = a;
+        let End { x: xb, f: fb } = b;
+        if ((fa < 0.0) & (fb < 0.0)) | ((0.0 < fa) & (0.0 < fb)) {
+            return Ok(None);
+        }
+        if xa == xb {
+            return Ok((fa == 0.0).then_some(xa));
+        }
+        if (fa == 0.0) & (fb == 0.0) {
+            return Err(Refusal::ZeroAtBothEnds);
+        }
+        self.started((fa * xb - fb * xa) / (fa - fb)).map(Some)
     }
-    let xa = a.x;
-    let xb = b.x;
-    if xa == xb {
-        return if fa == 0.0 {
-            Found::Root(xa)
+
+    // The root in a part of 0..t, where the part is there.
+    pub(crate) fn part_root(self, there: bool, a: End, b: End) -> Result<Option<f32>, Refusal>
+        ensures { result ≡ Def.part_root self.p self.t self.epsilon there a b }
+    {
+        if there {
+            self.span_root(a, b)
         } else {
-            Found::Nothing
-        };
+            Ok(None)
+        }
     }
-    if (fa == 0.0) & (fb == 0.0) {
-        return Found::Refused(6);
-    }
-    started(p, t, epsilon, (fa * xb - fb * xa) / (fa - fb))
 }

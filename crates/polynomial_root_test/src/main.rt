@@ -9,10 +9,25 @@ mod line;
 mod quadratics;
 mod refused_cubics;
 
+use line::Line;
+use polynomial_root::{cubic_roots_in_range_zero_to_t, quadratic_root};
 use std::io;
 
+fn cubic(rt: &impl Print, call: [f32; 6]) -> io::Result<()> {
+    let [c0, c1, c2, c3, t, epsilon] = call;
+    let answer = cubic_roots_in_range_zero_to_t(c0, c1, c2, c3, t, epsilon);
+    println!(rt; "{}", Line(answer))
+}
+
 fn main(rt: HostRuntime) -> io::Result<()> {
-    quadratics::all(&rt)?;
-    refused_cubics::all(&rt)?;
-    cubics::all(&rt)
+    for [c0, c1, c2] in quadratics::CALLS {
+        println!(&rt; "{}", Line(quadratic_root(c0, c1, c2)))?;
+    }
+    for call in refused_cubics::CALLS {
+        cubic(&rt, call)?;
+    }
+    for call in cubics::CALLS {
+        cubic(&rt, call)?;
+    }
+    Ok(())
 }
