@@ -90,7 +90,14 @@ def hold_imports():
 # ---- functions
 # docs/01-scope.md has the caller lend the pair record: `after_scaling` does so for callers that hold a pair by value
 LENT = "motion::scaling::normalize_centerized_configuration"
-FUNCTION = re.compile(r'^[ \t]*(?P<how>pub(?:\(crate\))? )?(?P<c>extern "C" )?fn (?P<name>\w+)', re.M)
+FUNCTION = re.compile(r'^(?P<indent>[ \t]*)(?P<how>pub(?:\(crate\))? )?(?P<c>extern "C" )?fn (?P<name>\w+)', re.M)
+IMPL = re.compile(r"^impl\b.*?(?P<type>\w+)(?:<[^{]*>)? {$", re.M)
+
+
+def qualified(function, text):
+    """A function's name, behind its type's where it is a method."""
+    types = [block["type"] for block in IMPL.finditer(text, 0, function.start())] if function["indent"] else []
+    return "::".join([*types[-1:], function["name"]])
 
 
 def module_of(path):
@@ -113,7 +120,7 @@ def public_functions():
             name, head = function["name"], text[function.start():].split("{\n", 1)[0]
             if crate_of(path) not in IS_LIBRARY or function["how"] != "pub ":
                 continue
-            key = name if function["c"] else "::".join([*module_of(path), name])
+            key = name if function["c"] else "::".join([*module_of(path), qualified(function, text)])
             if not is_open(path):
                 fault(name_of(path), f"{name} is public in a module that is not")
             if "ensures" not in head:
@@ -237,13 +244,13 @@ def hold_laws():
 
 # ---- must-fail edits
 def bodies(crate):
-    """The text of each function of a crate, by file and name."""
+    """The text of each function of a crate, by file and name, a method's behind its type's."""
     found = {}
     for path, text in SOURCES.items():
         if crate_of(path) == crate:
             heads = list(FUNCTION.finditer(text))
-            ends = [text.find("\n}", head.start()) for head in heads]
-            found.update({(path, h["name"]): text[h.start():end] for h, end in zip(heads, ends)})
+            ends = [text.find("\n" + head["indent"] + "}", head.start()) for head in heads]
+            found.update({(path, qualified(h, text)): text[h.start():end] for h, end in zip(heads, ends)})
     return found
 
 
@@ -270,7 +277,8 @@ def edits_of(crate):
     for edit in sorted(CRATES.glob(f"{crate}/must-fail/*.edit")):
         for key in edited(edit, functions):
             touched[key].add(edit.stem)
-    calls = {key: [other for other in functions if other != key and occurs(other[1], functions[key])] for key in functions}
+    names = {key: key[1].rsplit("::", 1)[-1] for key in functions}
+    calls = {key: [other for other in functions if other != key and occurs(names[other], functions[key])] for key in functions}
     grown = True
     while grown:
         grown = False

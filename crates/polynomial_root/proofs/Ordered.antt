@@ -8,12 +8,12 @@ use lib.Ieee.{Float, fin, binary32, neg, lt, le, eq, is_nan, fits, of_bits, inf,
 use lib.Ieee.Fits.{sub-fits}
 use lib.Ieee.Scale.{finite}
 use Rattle.std.specs.Prelude.{Option, None, Some, IfSome}
+use Rattle.std.proofs.lemmas.Float.{T_from_true}
 use Rattle.number.specs.Number.{◌⊕◌, ◌⊖◌, ◌⊗◌, ◌⊘◌, zero32, one32, root_of}
 use Rattle.number.proofs.Within.{Within, within_finite, within_more, add_within, sub_within, mul_within}
 use Rattle.number.proofs.Comparing.{not_lt_le, lt_le}
 use Rattle.number.proofs.SquareRoot.Bounds.{root_within}
 use Rattle.polynomial_root.specs.Roots.{two32, stable, in_order, solved}
-use Rattle.polynomial_root.proofs.Orders.{test_true}
 use Rattle.polynomial_root.proofs.Multiples.{twice_some}
 use Rattle.polynomial_root.proofs.Defined.{quotient_no_nan, two_within}
 
@@ -109,7 +109,7 @@ module _ (c0 c1 c2 : Float) (f : T (fits binary32 c2)) (w0 : Within 22 c0) (w1 :
       sort a b p q = pick (lt a b) refl
         where
           pick : (c : Bool) → lt a b ≡ c → InOrder (Some (cond c (a, b) (b, a)))
-          pick true h = record { first = p; second = q; order = lt_le a b (test_true h) }
+          pick true h = record { first = p; second = q; order = lt_le a b (T_from_true _ h) }
           pick false h = record {
             first = q;
             second = p;

@@ -4,7 +4,7 @@ use Prim.Native.Nat.{ℕ, ◌*◌, ◌^◌, ◌≤◌, ◌<◌, zero-le}
 use native.Mathlib.Nat.{le_trans, le_of_eq, lt_of_le_of_lt, mul_comm, mul_right_comm, mul-le-mul_right}
 use native.Mathlib.Nat.{le_of_mul-le-mul_right}
 use native.Mathlib.Omega.{arith}
-use mathlib.Core.Path.{◌≡◌, refl, sym, subst}
+use mathlib.Core.Path.{◌≡◌, refl}
 use mathlib.Core.Bool.{Bool, true, false, not, ◌&&◌, ◌||◌, cond}
 use lib.Dec.{T, ltb, eqb, eqb→eq}
 use lib.Pow.{pow_pos}
@@ -22,10 +22,6 @@ use Rattle.number.proofs.Signs.{le_of_tests}
 use Rattle.number.proofs.NoNan.{no_nan_lt}
 use Rattle.number.proofs.Transitive.{lt_not_le}
 use Rattle.polynomial_root.proofs.Zeros.{high_zero}
-
--- ---- tests
-pub test_true : {b : Bool} → b ≡ true → T b
-test_true e = subst T (sym e) tt
 
 -- ---- the range 0..t
 module _ (t : Float) (above : T (lt zero32 t)) where

@@ -11,18 +11,19 @@ use lib.Dec.{T, lit≤}
 use lib.Ieee.{Float, binary32, eq, is_nan, fits}
 use lib.Ieee.Fits.{add-fits}
 use Rattle.std.specs.Prelude.{Option, None, Some, Result, Ok, Err, IfOk}
+use Rattle.std.proofs.lemmas.Float.{T_from_true}
 use Rattle.number.specs.Number.{◌⊗◌, zero32, clamp, between, written}
 use Rattle.number.specs.declared.refusal.Refusal.{Refusal}
 use Rattle.number.proofs.Answers.{admitted_keeps}
 use Rattle.number.proofs.Ranges.{zero_to_one_lem}
 use Rattle.number.proofs.Within.{Within, within_more, within_finite}
 use Rattle.polynomial_root.specs.Roots.{none, refused, or_refused, push, two32, solved, three32, value_at, both_zero}
-use Rattle.polynomial_root.specs.Roots.{vanishes, opposite, fraction, linear_roots, keep, kept_roots, lower_roots, span_roots}
-use Rattle.polynomial_root.specs.Roots.{cubic_roots, quadratic_refusal, cubic_refusal, solved_roots, quadratic_root}
+use Rattle.polynomial_root.specs.Roots.{vanishes, opposite, fraction, linear_roots, keep, kept_roots, lower_roots}
+use Rattle.polynomial_root.specs.Roots.{span_roots, cubic_roots, quadratic_refusal, cubic_refusal, solved_roots, quadratic_root}
 use Rattle.polynomial_root.specs.Roots.{cubic_roots_in_range, Tidy, InRange, NoneOrTwo, OriginalAtOne}
 use Rattle.polynomial_root.specs.declared.answer.Roots.{Roots}
 use Rattle.polynomial_root.specs.declared.cubic.Cubic.{Cubic}
-use Rattle.polynomial_root.proofs.Orders.{test_true, zero_in_range, written_in_range, clamp_in_range}
+use Rattle.polynomial_root.proofs.Orders.{zero_in_range, written_in_range, clamp_in_range}
 use Rattle.polynomial_root.proofs.Defined.{product_no_nan}
 use Rattle.polynomial_root.proofs.Places.{Holds, none_holds, push_holds}
 use Rattle.polynomial_root.proofs.Gathered.{Solves, solved_holds, kept_holds}
@@ -89,7 +90,7 @@ module _ (p : Cubic) (t epsilon : Float) (h : Allowed p t) where
           (Holds (In t))
       go true true = constant_holds
       go true false = linear_holds f
-      go false z = kept_holds (In t) t (λ r i. written_in_range t h.above r (test_true i)) roots
+      go false z = kept_holds (In t) t (λ r i. written_in_range t h.above r (T_from_true _ i)) roots
 
   pub cubic_holds : T (fits binary32 p.c0) → IfOk (cubic_roots p t epsilon) (Holds (In t))
   unfolding cubic_roots
@@ -136,7 +137,7 @@ pub cubic_promised : (p : Cubic) (t epsilon : Float) → fits binary32 p.c0 ≡ 
     → a ≡ cubic_roots_in_range p t epsilon
     → IfOk a Tidy × IfOk a (InRange t) × OriginalAtOne p t epsilon a
 cubic_promised p t epsilon f a e =
-    let f : T (fits binary32 p.c0) = test_true f in
+    let f : T (fits binary32 p.c0) = T_from_true _ f in
     let h = go a (subst (λ (a : Result Roots Refusal). IfOk a (Holds (In t))) (sym e) (cubic_promises p t epsilon f)) in
     (h.0, h.1, subst (OriginalAtOne p t epsilon) (sym e) (cubic_at_one p t epsilon f))
   where
@@ -192,7 +193,7 @@ quadratic_promises c0 c1 c2 f =
 pub quadratic_promised : (c0 c1 c2 : Float) → fits binary32 c2 ≡ true → {r : Roots} → Ok r ≡ quadratic_root c0 c1 c2
     → Quadratic r
 quadratic_promised c0 c1 c2 f e =
-    subst (λ (a : Result Roots Refusal). IfOk a Quadratic) (sym e) (quadratic_promises c0 c1 c2 (test_true f))
+    subst (λ (a : Result Roots Refusal). IfOk a Quadratic) (sym e) (quadratic_promises c0 c1 c2 (T_from_true _ f))
 
 -- ---- no root is dropped, though the two be equal
 abbrev pub two_roots : Float → Float → Roots

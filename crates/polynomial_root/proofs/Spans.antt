@@ -6,6 +6,7 @@ use lib.Dec.{T}
 use lib.Ieee.{Float, lt, le, eq}
 use lib.Ieee.Fits.{and_i, and_l}
 use Rattle.std.specs.Prelude.{Option, None, Some, Result, Ok, Err, IfOk}
+use Rattle.std.proofs.lemmas.Float.{T_from_true}
 use Rattle.number.specs.Number.{◌⊖◌, ◌⊗◌, ◌⊘◌, zero32, size, smaller, larger, between}
 use Rattle.number.specs.declared.refusal.Refusal.{Refusal}
 use Rattle.number.proofs.Within.{Within, within_finite}
@@ -14,7 +15,7 @@ use Rattle.polynomial_root.specs.Roots.{none, refused, value_at, slope_at, stepp
 use Rattle.polynomial_root.specs.Roots.{started, end_at, found, span_root, start, part_root, span_roots}
 use Rattle.polynomial_root.specs.declared.cubic.Cubic.{Cubic}
 use Rattle.polynomial_root.specs.declared.span.End.{End}
-use Rattle.polynomial_root.proofs.Orders.{test_true, zero_in_range, written_in_range, clamp_in_range}
+use Rattle.polynomial_root.proofs.Orders.{zero_in_range, written_in_range, clamp_in_range}
 use Rattle.polynomial_root.proofs.Orders.{within_range}
 use Rattle.polynomial_root.proofs.Defined.{quotient_no_nan, difference_no_nan, value_within, slope_within}
 use Rattle.polynomial_root.proofs.Places.{Holds, none_holds}
@@ -57,7 +58,7 @@ module _ (p : Cubic) (t epsilon : Float) (h : Allowed p t) where
 
   started_in_range : (r : Float) → Finds In (started p t epsilon r)
   unfolding started
-  started_in_range r = go (between zero32 t r) (λ e. descend_in_range newton_steps r (test_true e))
+  started_in_range r = go (between zero32 t r) (λ e. descend_in_range newton_steps r (T_from_true _ e))
     where
       go : (b : Bool) → (b ≡ true → Finds In (descend p t epsilon newton_steps r))
           → Finds In (cond b (descend p t epsilon newton_steps r) (refused 7))
@@ -91,7 +92,7 @@ module _ (p : Cubic) (t epsilon : Float) (h : Allowed p t) where
   larger_in_range e l = go (lt zero32 e) refl
     where
       go : (b : Bool) → lt zero32 e ≡ b → In (cond b e zero32)
-      go true q = and_i (le zero32 e) (le e t) (lt_le zero32 e (test_true q)) l
+      go true q = and_i (le zero32 e) (le e t) (lt_le zero32 e (T_from_true _ q)) l
       go false q = zero_in_range t h.above
 
   part_in_range : (there : Bool) (a b : End) → (there ≡ true → In a.x) → Gives In (part_root p t epsilon there a b)
@@ -108,7 +109,7 @@ module _ (p : Cubic) (t epsilon : Float) (h : Allowed p t) where
       let first = part_in_range (le zero32 e0) (start p) (end_at p (smaller t e0)) (λ e. zero_in_range t h.above) in
       let middle =
       part_in_range there (end_at p (larger zero32 e0)) (end_at p (smaller t e1))
-      (λ e. larger_in_range e0 (and_l (le e0 t) (le zero32 e1) (test_true e))) in
+      (λ e. larger_in_range e0 (and_l (le e0 t) (le zero32 e1) (T_from_true _ e))) in
       let last =
-      part_in_range (le e1 t) (end_at p (larger zero32 e1)) (end_at p t) (λ e. larger_in_range e1 (test_true e)) in
+      part_in_range (le e1 t) (end_at p (larger zero32 e1)) (end_at p t) (λ e. larger_in_range e1 (T_from_true _ e)) in
       after_holds In _ _ (after_holds In _ _ (after_holds In (Ok none) _ (none_holds In) first) middle) last

@@ -9,12 +9,13 @@ use mathlib.Core.Bool.{Bool, true, false, not, cond, ◌&&◌, ◌||◌}
 use lib.Dec.{T, ltb, eqb, ltb→lt, lt→ltb, eqb→eq}
 use lib.Ieee.{Float, inf, fin, up, down, lt, le, eq, is_nan, of_bits, nan}
 use lib.Ieee.Fits.{up_pos, down_pos, and_l}
+use Rattle.std.proofs.lemmas.Float.{T_from_true}
 use Rattle.number.specs.Number.{zero32, written}
 use Rattle.number.proofs.Units.{none_of}
 use Rattle.number.proofs.Units.Compared.{no_size}
 use Rattle.number.proofs.Comparing.{or_l, le_self}
 use Rattle.number.proofs.Signs.{plus_up}
-use Rattle.polynomial_root.proofs.Orders.{test_true, tested}
+use Rattle.polynomial_root.proofs.Orders.{tested}
 use Rattle.polynomial_root.proofs.Zeros.{eq_zero, zero_high, zero_low}
 
 zero_number : T (not (is_nan zero32))
@@ -103,6 +104,6 @@ written_order a b h = go (eq a zero32) (eq b zero32) refl refl
   where
     go : (p q : Bool) → eq a zero32 ≡ p → eq b zero32 ≡ q → T (le (cond p zero32 a) (cond q zero32 b))
     go true true i j = le_self zero32 zero_number
-    go true false i j = zero_up a b (test_true i) h
-    go false true i j = zero_down a b (test_true j) h
+    go true false i j = zero_up a b (T_from_true _ i) h
+    go false true i j = zero_down a b (T_from_true _ j) h
     go false false i j = h

@@ -4,7 +4,8 @@ ghost use Rattle.polynomial_root.specs.Roots as Def;
 
 use number::order::written;
 
-// The roots in the first `count` places, zero in the others.
+// The roots in the first `count` places, zero in the others. docs/01-scope.md fixes the two fields; that they are tidy is
+// a clause (`Tidy`) and no invariant of the type, since the definitions make an answer of these two alone.
 #[derive(Clone, Copy)]
 pub struct Roots {
     pub count: u32,

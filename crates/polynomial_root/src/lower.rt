@@ -14,7 +14,7 @@ use number::refusal::Refusal;
 pub(crate) fn vanishes(c: f32) -> bool
     ensures { result ≡ Def.vanishes c }
 {
-    size(c) < 1.1920929e-7
+    size(c) < f32::EPSILON
 }
 
 fn constant_roots(c0: f32) -> Roots

@@ -23,4 +23,6 @@ loop-preserved c =
     c.if-size-self.false _ c.slope_at-d.ensures c.if-f-d.false _ c.clamp-r.ensures
 
 pub returns : goal.returns
-returns c = out_of_steps _ _ _ c.loop.r c.loop.counter _ c.loop.invariant (λ (h : c.loop.counter < newton_steps). omega arith)
+returns c =
+    out_of_steps _ _ _ c.loop.r c.loop.counter _ c.loop.invariant
+    (λ (h : c.loop.counter < newton_steps). omega arith)

@@ -5,4 +5,5 @@ use Rattle.polynomial_root.proofs.search.Search.descend.Given as goal
 
 abbrev pub invariant-loop : goal.invariant-loop
 invariant-loop l =
-    Stands l.self.p l.self.t l.self.epsilon (descend l.self.p l.self.t l.self.epsilon newton_steps l.guess) l.counter l.r
+    let s = l.self in
+    Stands s.p s.t s.epsilon (descend s.p s.t s.epsilon newton_steps l.guess) l.counter l.r
