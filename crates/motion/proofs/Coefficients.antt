@@ -8,10 +8,12 @@ use mathlib.Core.List.{List}
 use Prim.Native.Nat.{ℕ, ◌<◌}
 use lib.Dec.{T, T_not, lit≤, lit<}
 use lib.Ieee.{Float, of_bits}
-use Rattle.number.specs.Number.{◌⊕◌, ◌⊖◌, ◌⊗◌, zero32, one32, is_finite}
+use Rattle.std.specs.Prelude.{Result, Ok, Err}
+use Rattle.number.specs.Number.{◌⊕◌, ◌⊖◌, ◌⊗◌, zero32, one32, is_finite, refusal, number_of, numbered, refusal_of}
+use Rattle.number.specs.declared.refusal.Refusal.{Refusal}
 use Rattle.number.proofs.Within.{Within, within_more, add_within, sub_within, mul_within}
 use Rattle.number.specs.Number as Answer
-use Rattle.number.proofs.Answers.{refusal_first, refused, admitted_keeps}
+use Rattle.number.proofs.Answers.{refused, admitted_keeps}
 use Rattle.geometry.specs.Geometry.{minus, at, col, triple}
 use Rattle.geometry.proofs.Bounds.{VecWithin, minus_within, col_within}
 use Rattle.polynomial_root.specs.declared.answer.Roots.{Roots}
@@ -23,7 +25,7 @@ use Rattle.admission.specs.Admission.{finite_points, bounded_points, motion_refu
 use Rattle.number.proofs.Finite.{within_real}
 use Rattle.admission.proofs.Admitted.{points_within, motion_admits, motion_first}
 use Rattle.motion.specs.Motion.{volume, motion_cubic, coplanar_times}
-use Rattle.motion.proofs.Refusals.{cubic_refusal_lem}
+use Rattle.motion.proofs.Refusals.{Has, cubic_has}
 
 -- an edge, a triple product of edges, by size; a sum of three such products is finite too
 record Edge (v : List Float) : Type 0 where
@@ -92,16 +94,44 @@ volume_finite x1 x2 x3 v1 v2 v3 hx1 hx2 hx3 hv1 hv2 hv3 =
     (sum_finite (product_small hv3 hv1 hx2) (product_small hv3 hx1 hv2) (product_small hx3 hv1 hv2))
     (one_finite (product_small hv3 hv1 hv2))
 
+-- ---- by which number
+-- a verdict's refusal has the number 1 only where something is not finite
+verdict_one : (finite ranged : Bool) → number_of (numbered (refusal finite ranged)) ≡ 1 → T (not finite)
+unfolding number_of numbered
+verdict_one true true e = absurd (omega arith)
+verdict_one true mathlib.Core.Bool.false e = absurd (omega arith)
+verdict_one mathlib.Core.Bool.false ranged e = tt
+
+abbrev Not-one : Refusal → Type 0
+Not-one r = number_of r ≡ 1 → ⊥
+
+other_6 : Not-one (numbered 6)
+unfolding number_of numbered
+other_6 e = omega arith
+
+other_7 : Not-one (numbered 7)
+unfolding number_of numbered
+other_7 e = omega arith
+
+other_8 : Not-one (numbered 8)
+unfolding number_of numbered
+other_8 e = omega arith
+
+-- an answer whose refusal is none of number 1
+other_number : (a : Result Roots Refusal) → Has Not-one other_6 other_7 other_8 a → refusal_of a ≡ 1 → ⊥
+unfolding refusal_of
+other_number (Ok r) h e = omega arith
+other_number (Err r) h e = h e
+
 -- a cubic of finite numbers is not refused by 1
 finite_not_one : (p : Cubic) (t epsilon : Float) → T (finite_cubic p t epsilon)
-    → (cubic_roots_in_range p t epsilon).refusal ≡ 1 → ⊥
-unfolding cubic_roots_in_range
+    → refusal_of (cubic_roots_in_range p t epsilon) ≡ 1 → ⊥
+unfolding cubic_roots_in_range refusal_of
 finite_not_one p t epsilon h =
     let n = cubic_refusal p t epsilon in
-    admitted_keeps (λ (r : Roots). r.refusal ≡ 1 → ⊥) n (cubic_roots p t epsilon) (Made.refused n)
-    (λ z. cubic_refusal_lem (λ n. n ≡ 1 → ⊥) (λ e. omega arith) (λ e. omega arith) (λ e. omega arith) (λ e. omega arith)
-    p t epsilon)
-    (λ e. T_not (finite_cubic p t epsilon) ((refusal_first (finite_cubic p t epsilon) (ranged_cubic p t epsilon)).0 e) h)
+    admitted_keeps (λ (a : Result Roots Refusal). refusal_of a ≡ 1 → ⊥) n (cubic_roots p t epsilon) (Made.refused n)
+    (λ z. other_number (cubic_roots p t epsilon) (cubic_has Not-one other_6 other_7 other_8 p t epsilon))
+    (λ e. T_not (finite_cubic p t epsilon) (verdict_one (finite_cubic p t epsilon) (ranged_cubic p t epsilon) e) h)
 
 module _ (x dx : List (List Float)) where
   pub coefficients_finite : motion_refusal x dx ≡ 0 → T (finite_cubic (motion_cubic x dx) one32 zero32)
@@ -115,20 +145,24 @@ module _ (x dx : List (List Float)) where
       (of-dx 1 (lit< tt)) (of-dx 2 (lit< tt)) (of-dx 3 (lit< tt))
 
   -- refused by 1 where, and only where, a number handed over is not finite
-  pub coplanar_first : ((coplanar_times x dx).refusal ≡ 1) ↔ T (not (finite_points x && finite_points dx))
-  unfolding coplanar_times
-  coplanar_first = (λ e. (motion_first x dx).0 (only e), λ h. always ((motion_first x dx).1 h))
+  pub coplanar_first : (refusal_of (coplanar_times x dx) ≡ 1) ↔ T (not (finite_points x && finite_points dx))
+  unfolding coplanar_times motion_refusal refusal_of number_of numbered
+  coplanar_first = (only, λ h. always ((motion_first x dx).1 h))
     where
       n : ℕ
       n = motion_refusal x dx
 
-      found : Roots
+      found : Result Roots Refusal
       found = cubic_roots_in_range (motion_cubic x dx) one32 zero32
 
-      only : (Answer.admitted n found (Made.refused n)).refusal ≡ 1 → n ≡ 1
+      only : refusal_of (Answer.admitted n found (Made.refused n)) ≡ 1 → T (not (finite_points x && finite_points dx))
       only =
-          admitted_keeps (λ (r : Roots). r.refusal ≡ 1 → n ≡ 1) n found (Made.refused n)
-          (λ z e. absurd (finite_not_one (motion_cubic x dx) one32 zero32 (coefficients_finite z) e)) (λ e. e)
+          admitted_keeps (λ (a : Result Roots Refusal). refusal_of a ≡ 1 → T (not (finite_points x && finite_points dx)))
+          n found (Made.refused n)
+          (λ z e. absurd (finite_not_one (motion_cubic x dx) one32 zero32 (coefficients_finite z) e))
+          (verdict_one (finite_points x && finite_points dx) (bounded_points x && bounded_points dx))
 
-      always : n ≡ 1 → (Answer.admitted n found (Made.refused n)).refusal ≡ 1
-      always e = ap (λ (r : Roots). r.refusal) (sym (refused found (Made.refused n) n n refl (λ z. omega arith))) ∙ e
+      always : n ≡ 1 → refusal_of (Answer.admitted n found (Made.refused n)) ≡ 1
+      always e =
+          ap refusal_of (sym (refused found (Made.refused n) n n refl (λ z. omega arith)))
+          ∙ ap (λ (k : ℕ). number_of (numbered k)) e

@@ -1,14 +1,10 @@
 -- What the inner functions of `motion` promise each other; no public statement cites it. Definitions only.
-use Rattle.std.specs.Prelude.{ℕ, false}
-use lib.{Dec.eqb, Ieee.Float}
-use Rattle.number.specs.declared.answer.Answered.{TheVariants.Refused}
-use Rattle.motion.specs.declared.{record.Pair.Pair, scaling.Outcome.Outcome}
-use Rattle.motion.specs.Motion.{scaling_refusal, scaling_of, leaves}
+use Rattle.std.specs.Prelude.{Result, Float}
+use Rattle.number.specs.Number.{answered}
+use Rattle.number.specs.declared.refusal.Refusal.{Refusal}
+use Rattle.motion.specs.declared.record.Pair.{Pair}
+use Rattle.motion.specs.Motion.{scaling_refusal, factors_for, scaled_pair}
 
--- a refused pair stays as it was
-abbrev pub standing : Pair → ℕ → Outcome
-standing p n = record { taken = false; answer = Refused n; pair = p }
-
--- both together, and whether the scaled pair is taken
-unfoldable pub outcome : Pair → Float → Outcome
-outcome p t = record { taken = eqb (scaling_refusal p t) 0; answer = scaling_of p t; pair = leaves p t }
+-- a scaling by value: the product of the factors with the scaled pair, or the refusal
+abbrev pub outcome : Pair → Float → Result (Float × Pair) Refusal
+outcome p t = answered (scaling_refusal p t) ((factors_for p t).product, scaled_pair p t)

@@ -1,11 +1,12 @@
 -- Scaling a pair, and the times at which its four points lie in one plane (docs/01-scope.md, "Scaling a pair", "Roots",
 -- "Refusal numbers"; ccd3.rs: `normalize_centerized_configuration`). Definitions only.
-use Rattle.std.specs.Prelude.{ℕ, zero, suc}
+use Rattle.std.specs.Prelude.{ℕ, zero, suc, Result}
 use mathlib.Core.{Path.◌≡◌, Bool.Bool, Bool.true, Bool.false, Bool.◌&&◌, Bool.cond, List.List, List.foldl}
 use lib.{Dec.T, Ieee.Float, Ieee.binary32, Ieee.lt, Ieee.of_bits}
 use Rattle.number.specs.Number.{◌⊕◌, ◌⊗◌, ◌⊘◌, zero32, one32, size, larger, is_finite}
-use Rattle.number.specs.Number.{refusal_of, value_of, admitted, answered}
-use Rattle.number.specs.declared.answer.Answered.{Answered}
+use Rattle.number.specs.Number.{admitted}
+use Rattle.number.specs.Number.{refusal_of, value_of, answered}
+use Rattle.number.specs.declared.refusal.Refusal.{Refusal}
 use Rattle.geometry.specs.Geometry.{at, col, minus, triple, scaled, count}
 use Rattle.polynomial_root.specs.Roots.{or_refused, cubic_of, cubic_roots_in_range}
 use Rattle.polynomial_root.specs.declared.{answer.Roots.Roots, cubic.Cubic.Cubic}
@@ -84,7 +85,7 @@ scaling_refusal p t =
     admitted n (cond (usable (first_factor p t)) (cond (finite_pair (scaled_pair p t)) 0 5) 4) n
 
 -- what is answered: the product of the factors, or the refusal; and what the lent pair holds afterwards
-abbrev pub scaling_of : Pair → Float → Answered
+abbrev pub scaling_of : Pair → Float → Result Float Refusal
 scaling_of p t = answered (scaling_refusal p t) (factors_for p t).product
 
 unfoldable pub leaves : Pair → Float → Pair
@@ -92,7 +93,7 @@ leaves p t = admitted (scaling_refusal p t) (scaled_pair p t) p
 
 -- a scaling of p that answers a and leaves the pair q; the number and the value of the answer; and that a scaled pair
 -- is finite
-pub record Scales (p : Pair) (t : Float) (a : Answered) (q : Pair) : Type 0 where
+pub record Scales (p : Pair) (t : Float) (a : Result Float Refusal) (q : Pair) : Type 0 where
   pub answer : a ≡ scaling_of p t
   pub left : q ≡ leaves p t
   pub refusal : refusal_of a ≡ scaling_refusal p t
@@ -113,5 +114,5 @@ motion_cubic x dx =
     volume (edge x 1) (edge x 2) (edge x 3) (edge dx 1) (edge dx 2) (edge dx 3)
 
 -- the roots of that cubic in 0..1, with epsilon 0; a coefficient beyond the bound is refused by 2
-unfoldable pub coplanar_times : List (List Float) → List (List Float) → Roots
+unfoldable pub coplanar_times : List (List Float) → List (List Float) → Result Roots Refusal
 coplanar_times x dx = or_refused (motion_refusal x dx) (cubic_roots_in_range (motion_cubic x dx) one32 zero32)

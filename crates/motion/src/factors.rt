@@ -15,7 +15,42 @@ pub(crate) struct Factors {
     pub product: f32,
 }
 
+impl Factors {
+    // f > 8 is taken apart into factors of 8 and a last one.
+    pub(crate) fn of(f: f32) -> Factors
+        requires { is_finite f ≡ true }
+        ensures { result ≡ Def.factors_of f }
+    {
+        let mut eights = 0;
+        let mut last = f;
+        let mut product = 1.0;
+        while 8.0 < last {
+            last = last / 8.0;
+            product = product * 8.0;
+            eights += 1;
+        }
+        Factors {
+            eights,
+            last,
+            product: product * last,
+        }
+    }
+
+    // Four points times all the factors.
+    pub(crate) fn times(self, x: [[f32; 3]; 4]) -> [[f32; 3]; 4]
+        ensures { result ≡ Def.scaled_by self x }
+    {
+        let mut y = x;
+        for _ in 0..self.eights {
+            let more = columns::scaled(y, 8.0);
+            y = more;
+        }
+        columns::scaled(y, self.last)
+    }
+}
+
 // The largest so far, after |x| and |x + max_t dx|.
+#[tactic(auto, unfolding(crate::specs::Motion::larger_entry))]
 fn larger_entry(most: f32, x: f32, dx: f32, max_t: f32) -> f32
     ensures { result ≡ Def.larger_entry max_t most x dx }
 {
@@ -29,61 +64,24 @@ fn larger_entry(most: f32, x: f32, dx: f32, max_t: f32) -> f32
 fn larger_column(most: f32, v: [f32; 3], d: [f32; 3], max_t: f32) -> f32
     ensures { result ≡ Def.larger_column max_t most v d }
 {
-    let a = larger_entry(most, v[0], d[0], max_t);
-    let b = larger_entry(a, v[1], d[1], max_t);
-    larger_entry(b, v[2], d[2], max_t)
+    v.iter()
+        .zip(&d)
+        .fold(most, |most, (x, dx)| larger_entry(most, *x, *dx, max_t))
 }
 
 // The largest size over the twelve places, at time 0 and at max_t.
 pub(crate) fn max_entry(x: [[f32; 3]; 4], dx: [[f32; 3]; 4], max_t: f32) -> f32
     ensures { result ≡ Def.max_entry x dx max_t }
 {
-    let mut most = 0.0;
-    for i in 0..4 {
-        let v = x[i];
-        let d = dx[i];
-        most = larger_column(most, v, d, max_t);
-    }
-    most
+    x.iter()
+        .zip(&dx)
+        .fold(0.0, |most, (v, d)| larger_column(most, *v, *d, max_t))
 }
 
 // A first factor that can be used: finite and above zero.
+#[tactic(auto, unfolding(crate::specs::Motion::usable))]
 pub(crate) fn usable(f: f32) -> bool
     ensures { result ≡ Def.usable f }
 {
     range::is_finite(f) & (0.0 < f)
-}
-
-// f > 8 is taken apart into factors of 8 and a last one.
-pub(crate) fn eighths(f: f32) -> Factors
-    requires { is_finite f ≡ true }
-    ensures { result ≡ Def.factors_of f }
-{
-    let mut eights = 0;
-    let mut last = f;
-    let mut product = 1.0;
-    while 8.0 < last {
-        last = last / 8.0;
-        product = product * 8.0;
-        eights += 1;
-    }
-    Factors {
-        eights: eights,
-        last: last,
-        product: product * last,
-    }
-}
-
-// Four points times all the factors.
-pub(crate) fn scaled_by(x: [[f32; 3]; 4], by: Factors) -> [[f32; 3]; 4]
-    ensures { result ≡ Def.scaled_by by x }
-{
-    let n = by.eights;
-    let last = by.last;
-    let mut y = x;
-    for k in 0..n {
-        let z = columns::scaled(y, 8.0);
-        y = z;
-    }
-    columns::scaled(y, last)
 }

@@ -1,18 +1,12 @@
--- What is behind the reference at the end is what a scaling leaves, stored or not.
-use Rattle.motion.proofs.Lent.{answered, stored, left}
-use Rattle.motion.proofs.Scalings.{scales}
+use Rattle.std.proofs.Common.{sym}
+use Rattle.std.proofs.lemmas.Result.{err_from_is_err_and}
+use Rattle.motion.proofs.Scalings.{scales_stored, scales_refused}
 use Rattle.motion.proofs.scaling.normalize_centerized_configuration.Goals as goal
 
-pub returns-then-out : goal.returns-then-out
-returns-then-out c =
-    let p = c.args.pair.now in
-    let r = c.scaled_pair-out.result in
-    let e = c.scaled_pair-out.ensures in
-    scales p c.args.max_t r.answer r.pair (answered p c.args.max_t r e) (stored p c.args.max_t r e)
+pub returns-in_err-product : goal.returns-in_err-product
+returns-in_err-product c =
+    let p = err_from_is_err_and c.from_residual.result c.from_residual.ensures.1 in
+    rw (p.1, p.2) (scales_refused c.args.pair.now c.args.max_t _ (sym c.in_err-product.ensures))
 
-pub returns-else-out : goal.returns-else-out
-returns-else-out c =
-    let p = c.args.pair.now in
-    let r = c.scaled_pair-out.result in
-    let e = c.scaled_pair-out.ensures in
-    scales p c.args.max_t r.answer p (answered p c.args.max_t r e) (left p c.args.max_t r e c.if-out.false)
+pub returns : goal.returns
+returns c = scales_stored _ _ _ _ (sym c.in_ok-product.ensures)
