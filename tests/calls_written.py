@@ -58,7 +58,7 @@ def rattle(functions):
 
 # how many words each field has that a method of `words.rt` reads or writes
 READ = {"number": [1], "word": [1], "split": [1], "point": [3], "points": [12]}
-WRITTEN = {"word": [1], "number": [1], "answered": [1, 1], "point": [3], "points": [12]}
+WRITTEN = {"word": [1], "refusal": [1], "number": [1], "answered": [1, 1], "point": [3], "points": [12]}
 
 
 def sizes_of(name, bodies, lent, words):
