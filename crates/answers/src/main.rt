@@ -22,8 +22,8 @@ use std::io::{Read, Write};
 // How many bytes a block of calls has, and its answers at most.
 const BLOCK: usize = 65536;
 
-// Answers the calls of one block, and says how many bytes the answers take. The calls end with the block, at a word that
-// is no function's number, or where there is no room for an answer.
+// Answers the calls of one block, and says how many bytes the answers take. The calls end with the block, at a word
+// that is no function's number, or where there is no room for an answer.
 fn answer_block(block: &[u8], out: &mut [u8]) -> usize
     ensures { IsPrefixLen result out.new }
 {
