@@ -31,14 +31,16 @@ fn answer_block(block: &[u8], out: &mut [u8]) -> usize
     let mut to = 0;
     while let Some((word, arguments)) = calls.split_first_chunk() {
         let function = u32::from_le_bytes(*word);
-        let size = sizes::of_answer(function);
-        if size == 0 || out.len() - to < size {
+        let Some(sizes) = sizes::of(function) else {
+            break;
+        };
+        if out.len() - to < sizes.answer {
             break;
         }
-        let mut answer = Answer::of(&mut out[to..to + size]);
+        let mut answer = Answer::of(&mut out[to..to + sizes.answer]);
         calls::answer(function, &mut Call::of(arguments), &mut answer);
-        calls = calls.get(sizes::of_call(function)..).unwrap_or(&[]);
-        to += size;
+        calls = calls.get(sizes.call..).unwrap_or(&[]);
+        to += sizes.answer;
     }
     to
 }
