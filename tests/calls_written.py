@@ -19,46 +19,37 @@ TESTING = ROOT / "docs/TESTING.md"
 RATTLE = """\
 // How many bytes a call and its answer take, by the number of the function. A call has the word of that number before
 // its arguments. Made of tests/calls.txt by tests/calls_written.py.
-ghost use Rattle.std.specs.Prelude.{{◌<◌, ◌≤◌}};
+ghost use Rattle.std.specs.Prelude.{{◌<◌, ◌≤◌, IfSome}};
 
-pub(crate) fn of_call(function: u32) -> usize
-    ensures {{ (0 < result) × (result ≤ {most_call}) }}
-{{
-    match function {{
-{calls}        _ => 4,
-    }}
+#[derive(Clone, Copy)]
+pub(crate) struct Sizes {{
+    pub call: usize,
+    pub answer: usize,
 }}
 
-pub(crate) fn of_answer(function: u32) -> usize
-    ensures {{ result ≤ {most_answer} }}
+// None for a number that is no function's.
+pub(crate) fn of(function: u32) -> Option<Sizes>
+    ensures call {{ IfSome result (λ sizes. (0 < sizes.call) × (sizes.call ≤ {most_call})) }}
+    ensures answer {{ IfSome result (λ sizes. sizes.answer ≤ {most_answer}) }}
 {{
-    match function {{
-{answers}        _ => 0,
-    }}
+    let (call, answer) = match function {{
+{arms}        _ => return None,
+    }};
+    Some(Sizes {{ call, answer }})
 }}
 """
 
 
-def arms(sizes):
-    """An arm for each size, in the order of the first function that has it."""
-    numbers = {}
-    for number, size in sizes:
-        numbers.setdefault(size, []).append(str(number))
-    return "".join(f"        {' | '.join(of)} => {size},\n" for size, of in numbers.items())
-
-
 def rattle(functions):
-    calls = [(f.number, f.bytes_of_call()) for f in functions]
-    answers = [(f.number, f.bytes_of_answer()) for f in functions]
-    most = lambda sizes: max(size for _, size in sizes)
-    return RATTLE.format(
-        most_call=most(calls), calls=arms(calls), most_answer=most(answers), answers=arms(answers)
-    )
+    calls = [f.bytes_of_call() for f in functions]
+    answers = [f.bytes_of_answer() for f in functions]
+    arms = [f"        {f.number} => ({call}, {answer}),\n" for f, call, answer in zip(functions, calls, answers)]
+    return RATTLE.format(most_call=max(calls), most_answer=max(answers), arms="".join(arms))
 
 
 # how many words each field has that a method of `words.rt` reads or writes
 READ = {"number": [1], "word": [1], "split": [1], "point": [3], "points": [12]}
-WRITTEN = {"word": [1], "number": [1], "answered": [1, 1], "point": [3], "points": [12]}
+WRITTEN = {"word": [1], "refusal": [1], "number": [1], "answered": [1, 1], "point": [3], "points": [12]}
 
 
 def sizes_of(name, bodies, lent, words):

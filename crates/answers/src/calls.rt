@@ -1,5 +1,5 @@
 // One call of each public function, by its number (tests/calls.txt): the arguments are read from the call, and the
-// answer's words, which are zeros until then, are written. A `match` is the plainest table: each arm names its function.
+// answer's words, which are zeros until then, are written. A `match` is the plainest table: an arm for each function.
 use crate::words::{Answer, Call};
 use crate::{points, roots, safe_time, scaling};
 

@@ -22,8 +22,8 @@ use std::io::{Read, Write};
 // How many bytes a block of calls has, and its answers at most.
 const BLOCK: usize = 65536;
 
-// Answers the calls of one block, and says how many bytes the answers take. The calls end with the block, at a word that
-// is no function's number, or where there is no room for an answer.
+// Answers the calls of one block, and says how many bytes the answers take. The calls end with the block, at a word
+// that is no function's number, or where there is no room for an answer.
 fn answer_block(block: &[u8], out: &mut [u8]) -> usize
     ensures { IsPrefixLen result out.new }
 {
@@ -31,14 +31,16 @@ fn answer_block(block: &[u8], out: &mut [u8]) -> usize
     let mut to = 0;
     while let Some((word, arguments)) = calls.split_first_chunk() {
         let function = u32::from_le_bytes(*word);
-        let size = sizes::of_answer(function);
-        if size == 0 || out.len() - to < size {
+        let Some(sizes) = sizes::of(function) else {
+            break;
+        };
+        if out.len() - to < sizes.answer {
             break;
         }
-        let mut answer = Answer::of(&mut out[to..to + size]);
+        let mut answer = Answer::of(&mut out[to..to + sizes.answer]);
         calls::answer(function, &mut Call::of(arguments), &mut answer);
-        calls = calls.get(sizes::of_call(function)..).unwrap_or(&[]);
-        to += size;
+        calls = calls.get(sizes.call..).unwrap_or(&[]);
+        to += sizes.answer;
     }
     to
 }

@@ -1,6 +1,7 @@
 // Calls of the square root and of the root finders.
 use crate::words::{Answer, Call};
 use motion::coplanar;
+use number::refusal::Refusal;
 use number::root;
 use polynomial_root::answer::Roots;
 
@@ -8,10 +9,12 @@ pub(crate) fn square_root(call: &mut Call, out: &mut Answer) {
     out.answered(root::square_root(call.number()));
 }
 
-fn put_roots(out: &mut Answer, answer: Roots) {
-    out.word(answer.refusal);
-    out.word(answer.count);
-    out.point(answer.roots);
+fn put_roots(out: &mut Answer, answer: Result<Roots, Refusal>) {
+    out.refusal(answer.err());
+    if let Ok(found) = answer {
+        out.word(found.count);
+        out.point(found.roots);
+    }
 }
 
 pub(crate) fn quadratic_root(call: &mut Call, out: &mut Answer) {

@@ -1,6 +1,6 @@
 // The fields of a call and of its answer, one after another: words of four bytes, little-endian; a number is its bits.
-use number::answer::Answered;
 use number::pattern::{bits_of, float_of};
+use number::refusal::Refusal;
 use std::slice;
 
 // The arguments of a call that are still to be read. What lies past the end is read as zeros.
@@ -69,13 +69,14 @@ impl<'a> Answer<'a> {
         }
     }
 
-    // The refusal, 0 for none, and the number, 0 where it is refused.
-    pub(crate) fn answered(&mut self, answer: Answered) {
-        let (refusal, number) = match answer {
-            Answered::Value(x) => (0, x),
-            Answered::Refused(refusal) => (refusal, 0.0),
-        };
-        self.word(refusal);
-        self.number(number);
+    // The number of a refusal, 0 for none.
+    pub(crate) fn refusal(&mut self, refusal: Option<Refusal>) {
+        self.word(refusal.map_or(0, u32::from));
+    }
+
+    // The refusal, and the number, 0 where it is refused.
+    pub(crate) fn answered(&mut self, answer: Result<f32, Refusal>) {
+        self.refusal(answer.err());
+        self.number(answer.unwrap_or(0.0));
     }
 }

@@ -1,18 +1,10 @@
 // One line for a call: its name, its answer, and what lies there afterwards where something was lent.
-use crate::shown::{Number, Point, Points, Refused};
+use crate::shown::{Answered, Number, Point, Points, Refused};
 use admission::{FULL_ALLOWANCE, Limits};
-use motion::{record, scaling};
-use number::answer::Answered;
+use motion::record::Pair;
+use motion::scaling;
 use pair::{norm, points, separation};
 use std::io;
-
-// A value by its name, or a refusal.
-fn answered(rt: &impl Print, name: &str, answer: Answered) -> io::Result<()> {
-    match answer {
-        Answered::Value(x) => print!(rt; " {name}{}", Number(x)),
-        Answered::Refused(n) => print!(rt; "{}", Refused(n)),
-    }
-}
 
 // Scaling a lent pair.
 pub(crate) fn scaled(
@@ -22,14 +14,13 @@ pub(crate) fn scaled(
     dx: [[f32; 3]; 4],
     max_t: f32,
 ) -> io::Result<()> {
-    let scaled = scaling::after_scaling(record::pair_of(x, dx), max_t);
-    print!(rt; "{name}")?;
-    answered(rt, "factor", scaled.answer)?;
-    let left = scaled.pair;
+    let mut pair = Pair { x, dx };
+    let factor = scaling::normalize_centerized_configuration(&mut pair, max_t);
     println!(rt;
-        "{}{}",
-        Points(record::x_of(left)),
-        Points(record::dx_of(left))
+        "{name}{}{}{}",
+        Answered("factor", factor),
+        Points(pair.x),
+        Points(pair.dx)
     )
 }
 
@@ -40,15 +31,21 @@ pub(crate) fn measured(
     x: [[f32; 3]; 4],
     split: usize,
 ) -> io::Result<()> {
-    print!(rt; "{name}")?;
-    answered(rt, "norm", norm::max_relative_norm(x, split))?;
-    let nearest = separation::squared_distance(x, split);
-    let candidate = nearest.candidate;
+    let norm = norm::max_relative_norm(x, split);
+    let measured = separation::squared_distance(x, split);
+    let (squared, direction, candidate) = match measured {
+        Ok(nearest) => {
+            let direction = nearest.direction;
+            (nearest.squared, direction, nearest.candidate)
+        }
+        Err(_) => (0.0, [0.0; 3], 0),
+    };
     println!(rt;
-        "{}{}{} {candidate:08x}",
-        Refused(nearest.refusal),
-        Number(nearest.squared),
-        Point(nearest.direction)
+        "{name}{}{}{}{} {candidate:08x}",
+        Answered("norm", norm),
+        Refused(measured.err()),
+        Number(squared),
+        Point(direction)
     )
 }
 
@@ -61,7 +58,11 @@ pub(crate) fn placed(
     ratio: f32,
 ) -> io::Result<()> {
     let placed = points::lerp(p0, p1, ratio);
-    println!(rt; "{name}{}{}", Refused(placed.refusal), Point(placed.point))
+    println!(rt;
+        "{name}{}{}",
+        Refused(placed.err()),
+        Point(placed.unwrap_or([0.0; 3]))
+    )
 }
 
 // Points moved into lent ones; lent points centred and scaled.
@@ -74,20 +75,20 @@ pub(crate) fn moved(
     lent: [[f32; 3]; 4],
 ) -> io::Result<()> {
     let mut x = lent;
-    let refusal = points::add_scaled(x0, dx, t, &mut x);
-    println!(rt; "{name}{}{}", Refused(refusal), Points(x))
+    let answer = points::add_scaled(x0, dx, t, &mut x);
+    println!(rt; "{name}{}{}", Refused(answer.err()), Points(x))
 }
 
 pub(crate) fn centred(rt: &impl Print, name: &str, lent: [[f32; 3]; 4]) -> io::Result<()> {
     let mut x = lent;
-    let refusal = points::centerize(&mut x);
-    println!(rt; "{name}{}{}", Refused(refusal), Points(x))
+    let answer = points::centerize(&mut x);
+    println!(rt; "{name}{}{}", Refused(answer.err()), Points(x))
 }
 
 pub(crate) fn times(rt: &impl Print, name: &str, lent: [[f32; 3]; 4], s: f32) -> io::Result<()> {
     let mut x = lent;
-    let refusal = points::scale_in_place(&mut x, s);
-    println!(rt; "{name}{}{}", Refused(refusal), Points(x))
+    let answer = points::scale_in_place(&mut x, s);
+    println!(rt; "{name}{}{}", Refused(answer.err()), Points(x))
 }
 
 // The admission of a safe time.
@@ -110,6 +111,6 @@ pub(crate) fn allowed(
     limits: Limits,
     allowance: u32,
 ) -> io::Result<()> {
-    let refusal = admission::admit_walk(x, x, split, limits, allowance);
-    println!(rt; "{name}{}", Refused(refusal))
+    let admitted = admission::admit_walk(x, x, split, limits, allowance);
+    println!(rt; "{name}{}", Refused(admitted.err()))
 }

@@ -36,8 +36,8 @@ fn signs(rt: &impl Print, x: [[f32; 3]; 4], split: usize) -> io::Result<()> {
 // Every number times a power of two.
 fn times(rt: &impl Print, x: [[f32; 3]; 4], split: usize, power: f32) -> io::Result<()> {
     let mut y = x;
-    let refusal = points::scale_in_place(&mut y, power);
-    print!(rt; "times a power of two{}", Refused(refusal))?;
+    let answer = points::scale_in_place(&mut y, power);
+    print!(rt; "times a power of two{}", Refused(answer.err()))?;
     both(rt, x, y, split)
 }
 

@@ -1,4 +1,5 @@
 // What a line shows of a call: numbers as the eight hexadecimal digits of their bits, each after a space.
+use number::refusal::Refusal;
 use std::fmt;
 
 // A NaN has no bits that can be read here.
@@ -41,12 +42,27 @@ impl fmt::Display for Points {
     }
 }
 
-// A refusal number, 0 where there is none.
+// A refusal's number, 0 where there is none.
 #[derive(Drop)]
-pub(crate) struct Refused(pub u32);
+pub(crate) struct Refused(pub Option<Refusal>);
 
 impl fmt::Display for Refused {
     fn fmt<W: fmt::Write>(&self, f: &mut fmt::Formatter<W>) -> fmt::Result {
-        write!(f, " refusal {:08x}", self.0)
+        let number = self.0.map_or(0, u32::from);
+        write!(f, " refusal {number:08x}")
+    }
+}
+
+// A number by its name, or the refusal.
+#[derive(Drop)]
+pub(crate) struct Answered<'a>(pub &'a str, pub Result<f32, Refusal>);
+
+impl fmt::Display for Answered<'_> {
+    fn fmt<W: fmt::Write>(&self, f: &mut fmt::Formatter<W>) -> fmt::Result {
+        let name = self.0;
+        match self.1 {
+            Ok(number) => write!(f, " {name}{}", Number(number)),
+            Err(refusal) => write!(f, "{}", Refused(Some(refusal))),
+        }
     }
 }

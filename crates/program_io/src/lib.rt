@@ -18,7 +18,8 @@ pub enum Failure {
     Output(io::Error),
 }
 
-// Reads until the buffer is full, the input ends or a read fails; how many bytes.
+// Reads until the buffer is full, the input ends or a read fails; how many bytes. The place moves by what each read gave:
+// the library's `read_exact` does not say how much there was, and reads again after an interrupted read.
 pub fn read_full<R: Read>(input: &mut R, buffer: &mut [u8]) -> io::Result<usize>
     ensures bound { ReadsAtMost result buffer.new }
     ensures bytes { Filled (R.remaining input.old) (R.remaining input.new) result buffer.new }

@@ -8,7 +8,6 @@
 ghost use Rattle.std.specs.Prelude.{◌*◌, ◌≤◌, length};
 ghost use Rattle.io.specs.Counts.{IsPrefixLen};
 
-use number::answer::Answered;
 use number::pattern::{bits_of, float_of};
 use number::root;
 use program_io::read_full;
@@ -18,8 +17,8 @@ use std::io::{Read, Write};
 // The answer to a pattern.
 fn answer(pattern: [u8; 4]) -> [u8; 5] {
     let (kind, word) = match root::square_root(float_of(u32::from_le_bytes(pattern))) {
-        Answered::Value(r) => (0, bits_of(r)),
-        Answered::Refused(n) => (1, n),
+        Ok(root) => (0, bits_of(root)),
+        Err(refusal) => (1, u32::from(refusal)),
     };
     let [a, b, c, d] = word.to_le_bytes();
     [kind, a, b, c, d]
