@@ -7,7 +7,7 @@ use Rattle.ccd3.specs.declared.Answer.{Answer}
 use Rattle.ccd3.specs.declared.Answer.TheVariants.{Touching, Contact, Clear, Budget, Refused}
 use Rattle.ccd3.specs.declared.SafeTime.{SafeTime}
 use Rattle.number.specs.declared.refusal.Refusal.{Refusal}
-use Rattle.number.specs.Number.{number_of}
+use Rattle.number.specs.Number.{refusal_number}
 use Rattle.scene.specs.declared.layout.Scene.{Scene}
 use Rattle.scene.specs.Scene.{scene_of, safe_time_at}
 use Rattle.scene.proofs.Spelling.{few_pairs}
@@ -47,7 +47,7 @@ unfolding listed
 listed_short s (Ok scene) e =
     simp length-append
     (omega (arith, few_pairs s scene (sym e), counted_short (codes "pairs ") scene.pairs, lines_short s scene.pairs))
-listed_short s (Err r) e = omega (arith, counted_short (codes "scene refused ") (number_of r))
+listed_short s (Err r) e = omega (arith, counted_short (codes "scene refused ") (refusal_number r))
 
 pub listing_short : (s : List ℕ) → length (listing s) ≤ 65536
 unfolding listing

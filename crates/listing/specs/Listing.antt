@@ -8,7 +8,7 @@ use Rattle.ccd3.specs.declared.Answer.{Answer}
 use Rattle.ccd3.specs.declared.Answer.TheVariants.{Touching, Contact, Clear, Budget, Refused}
 use Rattle.ccd3.specs.declared.SafeTime.{SafeTime}
 use Rattle.number.specs.declared.refusal.Refusal.{Refusal}
-use Rattle.number.specs.Number.{number_of}
+use Rattle.number.specs.Number.{refusal_number}
 use Rattle.scene.specs.declared.layout.Scene.{Scene}
 use Rattle.scene.specs.Scene.{scene_of, safe_time_at}
 
@@ -44,7 +44,7 @@ counted word n = word ++ decimal n ++ codes "\n"
 -- by what the file turns out to be
 unfoldable pub listed : List ℕ → Result Scene Refusal → List ℕ
 listed s (Ok scene) = counted (codes "pairs ") scene.pairs ++ lines s scene.pairs
-listed s (Err r) = counted (codes "scene refused ") (number_of r)
+listed s (Err r) = counted (codes "scene refused ") (refusal_number r)
 
 unfoldable pub listing : List ℕ → List ℕ
 listing s = listed s (scene_of s)

@@ -7,7 +7,7 @@ use Rattle.number.specs.declared.refusal.Refusal.{Refusal}
 use Rattle.number.specs.declared.refusal.Refusal.TheVariants.{NotFinite}
 use Rattle.number.specs.declared.by_hand.Argument.{Argument}
 use Rattle.number.specs.declared.by_hand.Sheet.{Sheet}
-use Rattle.number.specs.Number.{answered, number_of, root_of, root_refusal}
+use Rattle.number.specs.Number.{answered, refusal_number, root_of, root_refusal}
 use Rattle.number.specs.Pattern.{float_of, bits_of}
 use Rattle.number.specs.ByHand.{argument_of, sheet_after}
 use Rattle.root_sheet.specs.RootSheet.{places, numeral, difference, is_plain, value, decimal_of, named, tried, row, rows}
@@ -123,7 +123,7 @@ told_short bits (Ok root) =
       worked_short (float_of bits),
       named_short (codes "answer ") (bits_of root),
     ))
-told_short bits (Err r) = simp length-append (omega (arith, length-hex bits, decimal_short (number_of r), reason_short r))
+told_short bits (Err r) = simp length-append (omega (arith, length-hex bits, decimal_short (refusal_number r), reason_short r))
 
 pub sheet_short : (bits : ℕ) → length (sheet bits) ≤ 4096
 unfolding sheet

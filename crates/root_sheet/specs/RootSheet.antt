@@ -6,7 +6,7 @@ use Rattle.number.specs.declared.refusal.Refusal.{Refusal}
 use Rattle.number.specs.declared.refusal.Refusal.TheVariants.{NotFinite}
 use Rattle.number.specs.declared.by_hand.Argument.{Argument}
 use Rattle.number.specs.declared.by_hand.Sheet.{Sheet}
-use Rattle.number.specs.Number.{answered, number_of, root_of, root_refusal}
+use Rattle.number.specs.Number.{answered, refusal_number, root_of, root_refusal}
 use Rattle.number.specs.Pattern.{float_of, bits_of}
 use Rattle.number.specs.ByHand.{argument_of, sheet_after}
 
@@ -102,7 +102,7 @@ unfoldable pub told : ℕ → Result Float Refusal → List ℕ
 told bits (Ok root) =
     named (codes "root of ") bits ++ worked (float_of bits) ++ named (codes "answer ") (bits_of root)
 told bits (Err r) =
-    hex bits ++ codes " refused " ++ decimal (number_of r) ++ codes ": " ++ reason r ++ codes "\n"
+    hex bits ++ codes " refused " ++ decimal (refusal_number r) ++ codes ": " ++ reason r ++ codes "\n"
 
 unfoldable pub sheet : ℕ → List ℕ
 sheet bits = told bits (answered (root_refusal (float_of bits)) (root_of (float_of bits)))
