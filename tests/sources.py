@@ -88,7 +88,7 @@ def hold_imports():
 
 
 # ---- functions
-# docs/01-scope.md has the caller lend the pair record: `after_scaling` does so for callers that hold a pair by value
+# docs/01-scope.md has the caller lend the pair record: in the library the C face alone does
 LENT = "motion::scaling::normalize_centerized_configuration"
 FUNCTION = re.compile(r'^(?P<indent>[ \t]*)(?P<how>pub(?:\(crate\))? )?(?P<c>extern "C" )?fn (?P<name>\w+)', re.M)
 IMPL = re.compile(r"^impl\b.*?(?P<type>\w+)(?:<[^{]*>)? {$", re.M)
@@ -131,6 +131,11 @@ def public_functions():
             if not function["c"] and key != LENT and not any(occurs(name, text) for text in others):
                 fault(name_of(path), f"{name} is public and no other crate calls it")
             found[key] = crate_of(path)
+        # a conversion that other crates may use: its statement is a member of the impl
+        elsewhere = any(crate_of(p) != crate_of(path) and f"{crate_of(path)}::" in t for p, t in SOURCES.items())
+        if crate_of(path) in IS_LIBRARY and elsewhere:
+            for made in re.findall(r"^impl From<.*> for (\w+) {\n +ghost from_gives = ", text, re.M):
+                found["::".join([*module_of(path), made, "from"])] = crate_of(path)
     return found
 
 

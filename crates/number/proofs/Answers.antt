@@ -32,12 +32,9 @@ refusal_second true true = (λ e. omega arith, λ n. absurd n.1)
 refusal_second true false = (λ e. (tt, tt), λ n. refl)
 refusal_second false ranged = (λ e. absurd (omega arith), λ n. absurd n.0)
 
--- where what lies in its range is finite: in its range, admitted; beyond it, the verdict on finite numbers alone
+-- where what lies in its range is finite: in its range, admitted
 pub ranged_none : (finite ranged : Bool) → (T ranged → T finite) → ranged ≡ true → 0 ≡ refusal finite ranged
 ranged_none finite ranged real e = rw (is_true finite (real (subst T (sym e) tt)), e)
-
-pub ranged_beyond : (finite ranged : Bool) → ranged ≡ false → refusal finite false ≡ refusal finite ranged
-ranged_beyond finite ranged e = rw e
 
 -- ---- what it makes of a call
 -- once a refusal number has been tested: what an admitted call gives, and what a refused one does
