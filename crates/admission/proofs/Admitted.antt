@@ -188,12 +188,6 @@ module _ (x : List (List Float)) where
       refusal_told (finite_points x && finite_points dx && is_finite t)
       (bounded_points x && bounded_points dx && zero_to_one t)
 
-pub ratio_told : (p q : List Float) (s : Float) → Told (ratio_refusal p q s)
-unfolding ratio_refusal
-ratio_told p q s =
-    refusal_told (of_three is_finite p && of_three is_finite q && is_finite s)
-    (of_three in_bound p && of_three in_bound q && zero_to_one s)
-
 -- ---- the safe time
 pub record Walkable (x dx : List (List Float)) (split : ℕ) (l : Limits) : Type 0 where
   pub points : T (bounded_points x)
