@@ -19,7 +19,8 @@ use Rattle.number.proofs.Ranges.{in_bound_lem, zero_to_bound_lem, zero_to_one_le
 use Rattle.geometry.proofs.Bounds.{Each}
 use Rattle.geometry.specs.Geometry.{at, col}
 use Rattle.admission.specs.declared.Limits.{Limits}
-use Rattle.admission.specs.Admission.{Follows, of_three, of_twelve, finite_points, bounded_points, is_split}
+use Rattle.admission.specs.Inner.{Follows}
+use Rattle.admission.specs.Admission.{of_three, of_twelve, finite_points, bounded_points, is_split}
 use Rattle.admission.specs.Admission.{finite_limits}
 use Rattle.admission.specs.Admission.{ranged_limits, full_allowance, is_allowance, walk_refusal, points_refusal}
 use Rattle.admission.specs.Admission.{split_refusal, factor_refusal, motion_refusal, time_refusal, ratio_refusal}
@@ -177,10 +178,6 @@ module _ (x : List (List Float)) where
   pub factor_told : (s : Float) → Told (factor_refusal x s)
   unfolding factor_refusal
   factor_told s = refusal_told (finite_points x && is_finite s) (bounded_points x && zero_to_bound s)
-
-  pub motion_told : (dx : List (List Float)) → Told (motion_refusal x dx)
-  unfolding motion_refusal
-  motion_told dx = refusal_told (finite_points x && finite_points dx) (bounded_points x && bounded_points dx)
 
   pub time_told : (dx : List (List Float)) (t : Float) → Told (time_refusal x dx t)
   unfolding time_refusal
