@@ -19,7 +19,8 @@ use Rattle.number.proofs.Ranges.{in_bound_lem, zero_to_bound_lem, zero_to_one_le
 use Rattle.geometry.proofs.Bounds.{Each}
 use Rattle.geometry.specs.Geometry.{at, col}
 use Rattle.admission.specs.declared.Limits.{Limits}
-use Rattle.admission.specs.Admission.{Follows, of_three, of_twelve, finite_points, bounded_points, is_split}
+use Rattle.admission.specs.Inner.{Follows}
+use Rattle.admission.specs.Admission.{of_three, of_twelve, finite_points, bounded_points, is_split}
 use Rattle.admission.specs.Admission.{finite_limits}
 use Rattle.admission.specs.Admission.{ranged_limits, full_allowance, is_allowance, walk_refusal, points_refusal}
 use Rattle.admission.specs.Admission.{split_refusal, factor_refusal, motion_refusal, time_refusal, ratio_refusal}
@@ -178,21 +179,11 @@ module _ (x : List (List Float)) where
   unfolding factor_refusal
   factor_told s = refusal_told (finite_points x && is_finite s) (bounded_points x && zero_to_bound s)
 
-  pub motion_told : (dx : List (List Float)) → Told (motion_refusal x dx)
-  unfolding motion_refusal
-  motion_told dx = refusal_told (finite_points x && finite_points dx) (bounded_points x && bounded_points dx)
-
   pub time_told : (dx : List (List Float)) (t : Float) → Told (time_refusal x dx t)
   unfolding time_refusal
   time_told dx t =
       refusal_told (finite_points x && finite_points dx && is_finite t)
       (bounded_points x && bounded_points dx && zero_to_one t)
-
-pub ratio_told : (p q : List Float) (s : Float) → Told (ratio_refusal p q s)
-unfolding ratio_refusal
-ratio_told p q s =
-    refusal_told (of_three is_finite p && of_three is_finite q && is_finite s)
-    (of_three in_bound p && of_three in_bound q && zero_to_one s)
 
 -- ---- the safe time
 pub record Walkable (x dx : List (List Float)) (split : ℕ) (l : Limits) : Type 0 where
