@@ -82,7 +82,7 @@ impl From<ccd3::SafeTime> for SafeTime {
 impl From<Result<Nearest, Refusal>> for Measured {
     ghost from_gives = { λ answer told. told ≡ Def.measured_of answer };
 
-    #[tactic(auto, unfolding(crate::specs::Face::measured_of))]
+    #[tactic(auto, unfolding(crate::specs::Face::measured_of, number::specs::Number::refusal_of))]
     fn from(answer: Result<Nearest, Refusal>) -> Measured {
         match answer {
             Ok(nearest) => {
@@ -107,7 +107,7 @@ impl From<Result<Nearest, Refusal>> for Measured {
 impl From<Result<answer::Roots, Refusal>> for Roots {
     ghost from_gives = { λ answer told. told ≡ Def.roots_of answer };
 
-    #[tactic(auto, unfolding(crate::specs::Face::roots_of))]
+    #[tactic(auto, unfolding(crate::specs::Face::roots_of, number::specs::Number::refusal_of))]
     fn from(answer: Result<answer::Roots, Refusal>) -> Roots {
         match answer {
             Ok(found) => {
