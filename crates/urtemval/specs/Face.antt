@@ -1,11 +1,7 @@
 -- The library's answers as records of numbers, the refusal's number first, 0 for none (docs/01-scope.md, "Refusal
 -- numbers", "The walk"). What a refusal does not have is zero. Definitions only.
 use Rattle.std.specs.Prelude.{List, [], ◌∷◌, Float, Result, Ok, Err}
-<<<<<<< HEAD
-use Rattle.number.specs.Number.{zero32, refusal_number, refusal_of, value_of}
-=======
 use Rattle.number.specs.Number.{zero32, refusal_of, value_of}
->>>>>>> origin/mot
 use Rattle.number.specs.declared.refusal.Refusal.{Refusal}
 use Rattle.distance.specs.declared.candidate.Nearest.{Nearest}
 use Rattle.polynomial_root.specs.declared.answer.Roots as Found
@@ -38,15 +34,6 @@ no_distance = record { squared = zero32; direction = zero32 ∷ zero32 ∷ zero3
 
 -- a distance, or a refusal
 unfoldable pub measured_of : Result Nearest Refusal → Measured
-<<<<<<< HEAD
-measured_of (Ok n) = record { refusal = 0; squared = n.squared; direction = n.direction; candidate = n.candidate }
-measured_of (Err r) = record { refusal = refusal_number r; squared = zero32; direction = zeros; candidate = 0 }
-
--- the roots in their places, or a refusal
-unfoldable pub roots_of : Result Found.Roots Refusal → Roots
-roots_of (Ok a) = record { refusal = 0; count = a.count; roots = a.roots }
-roots_of (Err r) = record { refusal = refusal_number r; count = 0; roots = zeros }
-=======
 measured_of a =
     let n = or_zeros no_distance a in
     record { refusal = refusal_of a; squared = n.squared; direction = n.direction; candidate = n.candidate }
@@ -54,4 +41,3 @@ measured_of a =
 -- the roots in their places, or a refusal
 unfoldable pub roots_of : Result Found.Roots Refusal → Roots
 roots_of a = let found = or_zeros none a in record { refusal = refusal_of a; count = found.count; roots = found.roots }
->>>>>>> origin/mot
