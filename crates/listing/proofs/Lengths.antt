@@ -18,7 +18,8 @@ use Rattle.listing.specs.Listing.{timed, ending, line, lines, counted, listed, l
 timed_short : (kind : List ℕ) (t : Float) (s : SafeTime) → length kind ≤ 10 → length (timed kind t s) ≤ 40
 unfolding timed
 timed_short kind t s h =
-    simp length-append (omega (arith, length-hex (to_bits binary32 t), decimal_short s.probes, decimal_short s.halvings))
+    let bits = length-hex (to_bits binary32 t) in
+    simp length-append (omega (arith, bits, decimal_short s.probes, decimal_short s.halvings))
 
 ending_short : (a : Answer) (s : SafeTime) → length (ending a s) ≤ 40
 unfolding ending

@@ -34,6 +34,7 @@ fn put_pairs(page: &mut Page, s: &[u8], scene: Scene)
 }
 
 // The lines of a scene, or that the file is refused.
+#[tactic(auto, unfolding(crate::specs::Listing::listing, crate::specs::Listing::listed))]
 fn put_listing(page: &mut Page, s: &[u8])
     ensures { Written page.old (Def.listing s.now) page.new }
 {

@@ -1,5 +1,6 @@
 -- A sheet has 4,096 bytes at most. Assumes nothing.
-use Rattle.std.proofs.Common.{ℕ, zero, suc, ◌+◌, ◌-◌, ◌*◌, ◌/◌, ◌%◌, ◌^◌, ◌≤◌, Bool, true, false, cond, List, [], ◌++◌, length, arith, length-append}
+use Rattle.std.proofs.Common.{ℕ, zero, suc, ◌+◌, ◌-◌, ◌*◌, ◌/◌, ◌%◌, ◌^◌, ◌≤◌, Bool, true, false, cond}
+use Rattle.std.proofs.Common.{List, [], ◌++◌, length, arith, length-append}
 use Rattle.std.specs.Prelude.{Float, Result, Ok, Err, ltb, eqb}
 use Rattle.text.specs.Text.{codes, decimal}
 use Rattle.text.proofs.Lengths.{decimal_short, length-hex}
@@ -10,7 +11,8 @@ use Rattle.number.specs.declared.by_hand.Sheet.{Sheet}
 use Rattle.number.specs.Number.{answered, refusal_number, root_of, root_refusal}
 use Rattle.number.specs.Pattern.{float_of, bits_of}
 use Rattle.number.specs.ByHand.{argument_of, sheet_after}
-use Rattle.root_sheet.specs.RootSheet.{places, numeral, difference, is_plain, value, decimal_of, named, tried, row, rows}
+use Rattle.root_sheet.specs.RootSheet.{places, numeral, difference, is_plain, value, decimal_of, named}
+use Rattle.root_sheet.specs.RootSheet.{tried, row, rows}
 use Rattle.root_sheet.specs.RootSheet.{taken, halved, opening, closing, worked, reason, told, sheet}
 
 -- what is as short in either case
@@ -123,7 +125,12 @@ told_short bits (Ok root) =
       worked_short (float_of bits),
       named_short (codes "answer ") (bits_of root),
     ))
+<<<<<<< HEAD
 told_short bits (Err r) = simp length-append (omega (arith, length-hex bits, decimal_short (refusal_number r), reason_short r))
+=======
+told_short bits (Err r) =
+    simp length-append (omega (arith, length-hex bits, decimal_short (refusal_number r), reason_short r))
+>>>>>>> origin/text
 
 pub sheet_short : (bits : ℕ) → length (sheet bits) ≤ 4096
 unfolding sheet

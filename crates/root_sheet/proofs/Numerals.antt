@@ -1,40 +1,32 @@
 -- A numeral by its whole part and its fraction, and a number of binary places taken apart into them. Assumes nothing.
-use mathlib.Core.Path.{◌≡◌, sym, ap, ◌∙◌, subst}
-use mathlib.Core.Bool.{Bool, true, false, cond}
-use mathlib.Core.List.{[], ◌++◌, append-nil}
+use mathlib.Core.Path.{◌≡◌, sym, ap, ◌∙◌}
+use mathlib.Core.Bool.{true, false}
+use mathlib.Core.List.{◌++◌, append-nil}
 use Prim.Native.Nat.{ℕ, ◌+◌, ◌-◌, ◌*◌, ◌/◌, ◌%◌, ◌^◌, ◌≤◌, ◌<◌}
 use native.Mathlib.Nat.{lt_of_le_of_lt, div-le_self, div-add-mod', mod-lt, mul_assoc, add-mul, mul-lt-mul_of_pos_right}
 use native.Mathlib.Omega.{arith}
 use borrow.Author.Tests.{eq-eqb, ne_eqb}
-use lib.Dec.{T, leb, eqb, leb→le}
-use lib.Ieee.Fits.{and_l, and_r}
 use lib.Pow.{pow-add, pow_pos, shl_exact}
+use Rattle.std.proofs.lemmas.Bool.Decides.{nat_tests}
 use Rattle.text.specs.Text.{codes, decimal}
 use Rattle.number.specs.declared.by_hand.Argument.{Argument}
 use Rattle.root_sheet.specs.RootSheet.{places, numeral, difference, is_plain, value}
 
 module _ (whole fraction : ℕ) (h : fraction < 2 ^ 60) where
-  parts : numeral (whole * 2 ^ 60 + fraction)
-      ≡ decimal whole ++ cond (eqb fraction 0) [] (codes "." ++ places 60 fraction)
-  unfolding numeral
-  parts =
-      let d : (whole * 2 ^ 60 + fraction) / 2 ^ 60 ≡ whole = omega arith in
-      let m : (whole * 2 ^ 60 + fraction) % 2 ^ 60 ≡ fraction = omega arith in
-      ap (λ (w : ℕ). decimal w ++ cond (eqb ((whole * 2 ^ 60 + fraction) % 2 ^ 60) 0) []
-      (codes "." ++ places 60 ((whole * 2 ^ 60 + fraction) % 2 ^ 60))) d
-      ∙ ap (λ (f : ℕ). decimal whole ++ cond (eqb f 0) [] (codes "." ++ places 60 f)) m
+  above : (whole * 2 ^ 60 + fraction) / 2 ^ 60 ≡ whole
+  above = omega arith
+
+  below : (whole * 2 ^ 60 + fraction) % 2 ^ 60 ≡ fraction
+  below = omega arith
 
   pub numeral_whole : fraction ≡ 0 → decimal whole ≡ numeral (whole * 2 ^ 60 + fraction)
-  numeral_whole e =
-      sym (parts
-      ∙ ap (λ (t : Bool). decimal whole ++ cond t [] (codes "." ++ places 60 fraction)) (eq-eqb fraction 0 e)
-      ∙ append-nil (decimal whole))
+  unfolding numeral
+  numeral_whole e = rw (above, below, eq-eqb fraction 0 e, append-nil)
 
   pub numeral_part : (fraction ≡ 0 → ⊥)
       → decimal whole ++ (codes "." ++ places 60 fraction) ≡ numeral (whole * 2 ^ 60 + fraction)
-  numeral_part n =
-      sym (parts
-      ∙ ap (λ (t : Bool). decimal whole ++ cond t [] (codes "." ++ places 60 fraction)) (ne_eqb fraction 0 n))
+  unfolding numeral
+  numeral_part n = rw (above, below, ne_eqb fraction 0 n)
 
 -- ---- digits / 2 ^ k, as the code takes it apart
 module _ (digits k : ℕ) (h : digits < 2 ^ 24) (l : k ≤ 60) where
@@ -86,23 +78,17 @@ module _ (digits k : ℕ) (h : digits < 2 ^ 24) (l : k ≤ 60) where
 -- ---- a number as it is, or with a power of two
 pub plain_range : (e : ℕ) → is_plain e ≡ true → (113 ≤ e) × (e ≤ 181)
 unfolding is_plain
-plain_range e h =
-    let t = subst T (sym h) tt in
-    (leb→le 113 e (and_l (leb 113 e) (leb e 181) t), leb→le e 181 (and_r (leb 113 e) (leb e 181) t))
+plain_range e h = grind (arith, nat_tests)
 
 pub value_plain : (a : Argument) → is_plain a.exponent ≡ true
     → numeral (a.digits * 2 ^ (a.exponent - 113)) ≡ value a
 unfolding value
-value_plain a h =
-    sym (ap (λ (t : Bool). cond t (numeral (a.digits * 2 ^ (a.exponent - 113)))
-    (numeral (a.digits * 2 ^ 37) ++ codes " * 2^" ++ difference a.exponent 150)) h)
+value_plain a h = rw h
 
 pub value_scaled : (a : Argument) → is_plain a.exponent ≡ false
     → numeral (a.digits * 2 ^ 37) ++ codes " * 2^" ++ difference a.exponent 150 ≡ value a
 unfolding value
-value_scaled a h =
-    sym (ap (λ (t : Bool). cond t (numeral (a.digits * 2 ^ (a.exponent - 113)))
-    (numeral (a.digits * 2 ^ 37) ++ codes " * 2^" ++ difference a.exponent 150)) h)
+value_scaled a h = rw h
 
 -- a whole number, as the code makes it
 pub raised : (d k : ℕ) → d < 2 ^ 24 → 173 ≤ k → k ≤ 181

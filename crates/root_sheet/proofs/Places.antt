@@ -3,7 +3,6 @@
 use Prim.Native.Nat.{ℕ, zero, suc, ◌+◌, ◌-◌, ◌*◌, ◌/◌, ◌%◌, ◌^◌, ◌≤◌, ◌<◌}
 use native.Mathlib.Omega.{arith}
 use mathlib.Core.Path.{◌≡◌, refl, sym, ap, ◌∙◌}
-use mathlib.Core.Bool.{Bool, cond}
 use mathlib.Core.List.{List, [], ◌++◌, append-nil, append_assoc}
 use borrow.Author.Tests.{eq-eqb, ne_eqb}
 use Rattle.text.specs.Text.{Written, decimal}
@@ -15,17 +14,15 @@ use Rattle.root_sheet.specs.RootSheet.{places}
 pub no_more : (k f : ℕ) → f ≡ 0 → places k f ≡ []
 unfolding places
 no_more zero f e = refl
-no_more (suc k) f e =
-    ap (λ (t : Bool). cond t [] (decimal (f * 10 / 2 ^ 60) ++ places k (f * 10 % 2 ^ 60))) (eq-eqb f 0 e)
+no_more (suc k) f e = rw (eq-eqb f 0 e)
 
 pub spent : (done f : ℕ) → 60 ≤ done → places (60 - done) f ≡ []
 unfolding places
-spent done f l = let e : 60 - done ≡ 0 = omega arith in ap (λ (k : ℕ). places k f) e
+spent done f l = let e : 60 - done ≡ 0 = omega arith in rw e
 
 one_more : (k f : ℕ) → (f ≡ 0 → ⊥) → places (suc k) f ≡ decimal (f * 10 / 2 ^ 60) ++ places k (f * 10 % 2 ^ 60)
 unfolding places
-one_more k f n =
-    ap (λ (t : Bool). cond t [] (decimal (f * 10 / 2 ^ 60) ++ places k (f * 10 % 2 ^ 60))) (ne_eqb f 0 n)
+one_more k f n = rw (ne_eqb f 0 n)
 
 -- where the loop stands: so many digits are written, and the rest is to come
 pub record Stands (before : Page) (fraction : ℕ) (page : Page) (f done : ℕ) : Type 0 where

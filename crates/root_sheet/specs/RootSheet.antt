@@ -1,6 +1,7 @@
 -- The sheet of a square root (docs/01-scope.md, "The root by hand"): from a bit pattern to the bytes of the text.
 -- Definitions only.
-use Rattle.std.specs.Prelude.{ℕ, zero, suc, ◌+◌, ◌-◌, ◌*◌, ◌/◌, ◌%◌, ◌^◌, Bool, cond, ◌&&◌, List, [], ◌++◌, leb, ltb, eqb, Float, Result, Ok, Err}
+use Rattle.std.specs.Prelude.{ℕ, zero, suc, ◌+◌, ◌-◌, ◌*◌, ◌/◌, ◌%◌, ◌^◌, leb, ltb, eqb, Bool, cond, ◌&&◌}
+use Rattle.std.specs.Prelude.{List, [], ◌++◌, Float, Result, Ok, Err}
 use Rattle.text.specs.Text.{codes, decimal, hex}
 use Rattle.number.specs.declared.refusal.Refusal.{Refusal}
 use Rattle.number.specs.declared.refusal.Refusal.TheVariants.{NotFinite}

@@ -63,6 +63,7 @@ fn put_closing(page: &mut Page, x: f32)
 }
 
 // All digits, of a number above zero.
+#[tactic(auto, unfolding(crate::specs::RootSheet::worked))]
 fn put_worked(page: &mut Page, x: f32)
     ensures { Written page.old (Def.worked x) page.new }
 {
@@ -107,6 +108,7 @@ fn put_refused(page: &mut Page, bits: u32, refusal: Refusal)
 }
 
 // By what the square root answers.
+#[tactic(auto, unfolding(crate::specs::RootSheet::sheet))]
 fn put_sheet(page: &mut Page, bits: u32)
     ensures { Written page.old (Def.sheet bits) page.new }
 {

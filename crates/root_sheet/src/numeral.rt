@@ -24,6 +24,7 @@ fn put_places(page: &mut Page, fraction: u64)
 }
 
 // whole + fraction / 2 ^ 60.
+#[tactic(auto, using(crate::proofs::Numerals::numeral_whole))]
 fn put_numeral(page: &mut Page, whole: u32, fraction: u64)
     requires { fraction < 2 ^ 60 }
     ensures { Written page.old (Def.numeral (whole * 2 ^ 60 + fraction)) page.new }
@@ -37,6 +38,7 @@ fn put_numeral(page: &mut Page, whole: u32, fraction: u64)
 }
 
 // k - c, which may be below zero.
+#[tactic(auto, unfolding(crate::specs::RootSheet::difference))]
 pub(crate) fn put_difference(page: &mut Page, k: u32, c: u32)
     ensures { Written page.old (Def.difference k c) page.new }
 {
@@ -86,6 +88,7 @@ fn put_value(page: &mut Page, a: Argument)
 }
 
 // What is behind the pattern: a zero by its sign, or a number above zero.
+#[tactic(auto, unfolding(crate::specs::RootSheet::decimal_of))]
 fn put_decimal_of(page: &mut Page, bits: u32)
     ensures { Written page.old (Def.decimal_of bits) page.new }
 {

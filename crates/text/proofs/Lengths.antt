@@ -1,18 +1,17 @@
 -- How long the text of a number is. Assumes nothing.
-use Prim.Native.Nat.{ℕ, zero, suc, ◌/◌, ◌%◌, ◌^◌, ◌≤◌}
+use Prim.Native.Nat.{ℕ, zero, suc, ◌/◌, ◌^◌, ◌≤◌}
 use native.Mathlib.Omega.{arith}
 use mathlib.Core.Path.{◌≡◌, refl}
 use mathlib.Core.Bool.{Bool, true, false, cond}
-use mathlib.Core.List.{[], ◌∷◌}
 use lib.Dec.{ltb}
 use lib.ListN.{length, length-append}
-use Rattle.io.specs.Digits.{last_digits, hex_digit_ascii}
+use Rattle.io.specs.Digits.{last_digits}
 use Rattle.text.specs.Text.{width, decimal, hex}
 
 length-last_digits : (b k n : ℕ) → length (last_digits b k n) ≡ k
 length-last_digits b zero n = refl
 length-last_digits b (suc k) n =
-    omega (arith, length-append (last_digits b k (n / b)) (hex_digit_ascii (n % b) ∷ []), length-last_digits b k (n / b))
+    let before = length-last_digits b k (n / b) in simp length-append (omega (arith, before))
 
 width_short : (k n : ℕ) → width k n ≤ suc k
 unfolding width

@@ -1,6 +1,8 @@
 -- Text as the list of its bytes, in ASCII: a text between quotes, a number in decimal and in hexadecimal, whose digits
--- are the toolchain's, and what it means that a text is put into a buffer or written on a page over one. Definitions only.
-use Rattle.std.specs.Prelude.{ℕ, zero, suc, ◌+◌, ◌-◌, ◌^◌, ◌≡◌, ◌≤◌, min, cond, List, [] as none, ◌∷◌ as ◌then◌, ltb, length}
+-- are the toolchain's, and what it means that a text is put into a buffer, or written on a page over one. Definitions
+-- only.
+use Rattle.std.specs.Prelude.{ℕ, zero, suc, ◌+◌, ◌-◌, ◌^◌, ◌≡◌, ◌≤◌, min, cond, ltb, length}
+use Rattle.std.specs.Prelude.{List, [] as none, ◌∷◌ as ◌then◌}
 use Prim.Native.Char.{code}
 use Prim.Native.String.{String, [], ◌∷◌}
 use Rattle.std.specs.Borrow.{MutBor}

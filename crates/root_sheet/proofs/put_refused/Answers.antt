@@ -8,5 +8,5 @@ unfolding told
 returns c =
     let number = rw c.from.ensures at c.decimal.ensures.written in
     let words = rw c.reason.ensures at c.bytes-3.ensures in
-    and_then (and_then (and_then (and_then (and_then c.hex.ensures.written c.bytes.ensures) number) c.bytes-2.ensures) words)
-    c.bytes-4.ensures
+    let numbered = and_then (and_then c.hex.ensures.written c.bytes.ensures) number in
+    and_then (and_then (and_then numbered c.bytes-2.ensures) words) c.bytes-4.ensures

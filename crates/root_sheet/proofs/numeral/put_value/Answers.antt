@@ -25,16 +25,16 @@ returns-then-a-lt173 c =
     let a = c.args.a in
     let r = range c.args.a.exponent _ c.is_plain.ensures c.if-is_plain.true in
     let j : 60 - (173 - a.exponent) ≡ a.exponent - 113 = omega (arith, c.if-a-lt173.true) in
-    let e = ap (λ (j : ℕ). numeral (a.digits * 2 ^ j)) j ∙ value_plain a (sym c.is_plain.ensures ∙ c.if-is_plain.true) in
-    as_text e c.put_binary.ensures
+    let plain = value_plain a (sym c.is_plain.ensures ∙ c.if-is_plain.true) in
+    as_text (ap (λ (j : ℕ). numeral (a.digits * 2 ^ j)) j ∙ plain) c.put_binary.ensures
 
 pub returns-else-a-lt173 : goal.returns-else-a-lt173
 returns-else-a-lt173 c =
     let a = c.args.a in
     let r = range a.exponent _ c.is_plain.ensures c.if-is_plain.true in
     let w = raised a.digits a.exponent c.requires c.if-a-lt173.false r.1 in
-    let e = ap numeral w ∙ value_plain a (sym c.is_plain.ensures ∙ c.if-is_plain.true) in
-    as_text e c.put_numeral.ensures
+    let plain = value_plain a (sym c.is_plain.ensures ∙ c.if-is_plain.true) in
+    as_text (ap numeral w ∙ plain) c.put_numeral.ensures
 
 pub returns-else-is_plain : goal.returns-else-is_plain
 returns-else-is_plain c =

@@ -15,7 +15,8 @@ use Rattle.root_sheet.proofs.row.put_rows.Goals as goal
 place_is : (i : ℕ) → 1 * 2 ^ (24 - i) % 4294967296 ≡ 2 ^ (24 - i)
 place_is i = shl_exact 1 (24 - i) 32 (omega arith) (omega arith) ∙ one-mul (2 ^ (24 - i))
 
-one_more : (x : Float) (i : ℕ) → rows x i ++ row (2 ^ (24 - i)) (sheet_after x i) (sheet_after x (i + 1)) ≡ rows x (i + 1)
+one_more : (x : Float) (i : ℕ)
+    → rows x i ++ row (2 ^ (24 - i)) (sheet_after x i) (sheet_after x (i + 1)) ≡ rows x (i + 1)
 unfolding rows
 one_more x i = rw add-one
 

@@ -14,4 +14,5 @@ returns c =
     let digits = rw c.from.ensures at c.decimal-k.ensures.digits in
     let few : c.decimal-k.result ≤ 10 = decimal_few c.args.n c.decimal-k.result (search rules) count in
     let wide = width_is 9 c.args.n c.decimal-k.result count few in
-    record { written = as_text (digits ∙ ap (λ (k : ℕ). last_digits 10 k c.args.n) wide) c.bytes.ensures; short = decimal_short c.args.n }
+    let text = digits ∙ ap (λ (k : ℕ). last_digits 10 k c.args.n) wide in
+    record { written = as_text text c.bytes.ensures; short = decimal_short c.args.n }

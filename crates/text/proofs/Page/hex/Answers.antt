@@ -13,4 +13,5 @@ returns c =
     let count = rw c.from.ensures at c.hex-k.ensures.len in
     let digits = rw c.from.ensures at c.hex-k.ensures.digits in
     let wide : c.hex-k.result ≡ 8 = hex_eight c.args.n c.hex-k.result (search rules) count in
-    record { written = as_text (digits ∙ ap (λ (k : ℕ). last_digits 16 k c.args.n) wide) c.bytes.ensures; short = omega (arith, length-hex c.args.n) }
+    let text = digits ∙ ap (λ (k : ℕ). last_digits 16 k c.args.n) wide in
+    record { written = as_text text c.bytes.ensures; short = omega (arith, length-hex c.args.n) }
