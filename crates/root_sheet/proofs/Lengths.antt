@@ -125,12 +125,8 @@ told_short bits (Ok root) =
       worked_short (float_of bits),
       named_short (codes "answer ") (bits_of root),
     ))
-<<<<<<< HEAD
-told_short bits (Err r) = simp length-append (omega (arith, length-hex bits, decimal_short (refusal_number r), reason_short r))
-=======
 told_short bits (Err r) =
     simp length-append (omega (arith, length-hex bits, decimal_short (refusal_number r), reason_short r))
->>>>>>> origin/text
 
 pub sheet_short : (bits : ℕ) → length (sheet bits) ≤ 4096
 unfolding sheet
