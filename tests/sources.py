@@ -226,6 +226,10 @@ def hold_laws():
     bodies = {path: USE.sub("", text) for path, text in PROOFS.items() if path.name != "Invariants.antt"}
     counts = sum((words(body) for body in bodies.values()), Counter())
     counts.update(name for text in PROOFS.values() for name in re.findall(rf"({WORD}+) as ", text))
+    # an attribute of the code cites a law by its path, a set of laws those that it lists
+    counts.update(name for text in SOURCES.values() for name in re.findall(r"::proofs::\w+::(\w+)", text))
+    counts.update(name for text in PROOFS.values() for laws in re.findall(r"^ *pub ruleset .*", text, re.M)
+                  for name in words(laws))
     for path, body in bodies.items():
         laws = list(LAW.finditer(body))
         for law, end in zip(laws, [law.start() for law in laws[1:]] + [len(body)]):

@@ -1,12 +1,15 @@
 -- The listing of a scene file: from the bytes of the file to the bytes of the text (docs/01-scope.md, "The listing").
 -- Definitions only.
-use Rattle.std.specs.Prelude.{ℕ, zero, suc, List, [], ◌++◌, Float}
+use Rattle.std.specs.Prelude.{ℕ, zero, suc, List, [], ◌++◌, Float, Result, Ok, Err}
 use Rattle.std.specs.Float.{binary32}
 use Rattle.std.specs.Float.Ieee.{to_bits}
 use Rattle.text.specs.Text.{codes, decimal, hex}
 use Rattle.ccd3.specs.declared.Answer.{Answer}
 use Rattle.ccd3.specs.declared.Answer.TheVariants.{Touching, Contact, Clear, Budget, Refused}
 use Rattle.ccd3.specs.declared.SafeTime.{SafeTime}
+use Rattle.number.specs.declared.refusal.Refusal.{Refusal}
+use Rattle.number.specs.Number.{number_of}
+use Rattle.scene.specs.declared.layout.Scene.{Scene}
 use Rattle.scene.specs.Scene.{scene_of, safe_time_at}
 
 -- a number after a space
@@ -38,10 +41,10 @@ lines s (suc k) = lines s k ++ line k (safe_time_at s k)
 unfoldable pub counted : List ℕ → ℕ → List ℕ
 counted word n = word ++ decimal n ++ codes "\n"
 
--- by the refusal, 0 for none, and the number of pairs
-unfoldable pub listed : List ℕ → ℕ → ℕ → List ℕ
-listed s zero m = counted (codes "pairs ") m ++ lines s m
-listed s (suc r) m = counted (codes "scene refused ") (suc r)
+-- by what the file turns out to be
+unfoldable pub listed : List ℕ → Result Scene Refusal → List ℕ
+listed s (Ok scene) = counted (codes "pairs ") scene.pairs ++ lines s scene.pairs
+listed s (Err r) = counted (codes "scene refused ") (number_of r)
 
 unfoldable pub listing : List ℕ → List ℕ
-listing s = listed s (scene_of s).refusal (scene_of s).pairs
+listing s = listed s (scene_of s)

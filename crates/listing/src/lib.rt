@@ -5,38 +5,42 @@
 
 mod line;
 
-ghost use Rattle.std.specs.Prelude.{◌≡◌, ◌++◌, ◌≤◌, ◌+◌, length, drop};
-ghost use Rattle.text.specs.Text.{Put};
+ghost use Rattle.std.specs.Prelude.{◌≡◌, ◌++◌, ◌≤◌, length, drop, Ok};
+ghost use Rattle.text.specs.Text.{Put, Written};
 ghost use Rattle.listing.specs.Listing as Def;
 
 use crate::line::put_line;
-use scene::layout;
+use scene::layout::{self, Scene};
 use scene::pairs::safe_time;
-use text::{put_bytes, put_decimal};
+use text::Page;
 
-// A line of a word and a number, at the start of the buffer.
-fn put_counted(out: &mut [u8], word: &[u8], n: u32) -> usize
-    requires { length word.now ≤ 14 }
-    ensures { Put out.old 0 (Def.counted word.now n) out.new result × (result ≤ 25) }
+// A line of a word and a number.
+fn put_counted(page: &mut Page, word: &[u8], n: u32)
+    ensures { Written page.old (Def.counted word.now n) page.new }
 {
-    let a = put_bytes(out, 0, word);
-    let b = put_decimal(out, a as u32, n);
-    put_bytes(out, b as u32, b"\n")
+    page.bytes(word);
+    page.decimal(n);
+    page.bytes(b"\n");
 }
 
 // The first line and the lines of the pairs.
-fn put_pairs(s: &[u8], pairs: u32, out: &mut [u8]) -> usize
-    requires { pairs ≤ 1024 }
-    ensures { Put out.old 0 (Def.listed s.now 0 pairs) out.new result
-        × (result ≤ 65536) }
+fn put_pairs(page: &mut Page, s: &[u8], scene: Scene)
+    ensures { Written page.old (Def.listed s.now (Ok scene)) page.new }
 {
-    let mut at = put_counted(out, b"pairs ", pairs);
-    let mut i: u32 = 0;
-    while i < pairs {
-        at = put_line(out, at as u32, i, safe_time(s, i));
-        i += 1;
+    put_counted(page, b"pairs ", scene.pairs);
+    for i in 0..scene.pairs {
+        put_line(page, i, safe_time(s, i));
     }
-    at
+}
+
+// The lines of a scene, or that the file is refused.
+fn put_listing(page: &mut Page, s: &[u8])
+    ensures { Written page.old (Def.listing s.now) page.new }
+{
+    match layout::read(s) {
+        Ok(scene) => put_pairs(page, s, scene),
+        Err(refusal) => put_counted(page, b"scene refused ", u32::from(refusal)),
+    }
 }
 
 // Writes the listing of the file into the buffer and answers its length. Where the buffer is shorter, what fits is
@@ -47,10 +51,7 @@ pub fn listing(s: &[u8], out: &mut [u8]) -> usize
     ensures whole { result ≤ length out.old
         → out.new ≡ Def.listing s.now ++ drop result out.old }
 {
-    let scene = layout::read(s);
-    if scene.refusal == 0 {
-        put_pairs(s, scene.pairs, out)
-    } else {
-        put_counted(out, b"scene refused ", scene.refusal)
-    }
+    let mut page = Page::new(out, 0);
+    put_listing(&mut page, s);
+    page.next_place()
 }

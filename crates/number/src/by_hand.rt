@@ -19,7 +19,8 @@ pub struct Sheet {
     pub left: u32,
 }
 
-// The digits and the exponent of a positive finite x; no digits for any other x.
+// The digits and the exponent of a positive finite x; no digits for any other x. (Not an `Option`: the sheet of any x goes
+// on from the number 0, as in `ByHand.sheet_after`.)
 pub fn argument_of(x: f32) -> Argument
     ensures { result ≡ Def.argument_of x }
 {

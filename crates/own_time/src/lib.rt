@@ -11,6 +11,7 @@ use ccd3::SafeTime;
 use ccd3::safe_time::maximum_safe_time_accurate;
 use pair::norm::norm;
 
+// The three limits stay three parameters: docs/STATEMENTS.md names this function, and no caller is asked for more.
 pub fn own_safe_time(
     x0: [[f32; 3]; 4],
     dx: [[f32; 3]; 4],

@@ -1,3 +1,4 @@
 -- Laws of this crate. Assumes nothing.
+mod Lengths
 mod Numerals
 mod Places

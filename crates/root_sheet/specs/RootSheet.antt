@@ -1,12 +1,12 @@
 -- The sheet of a square root (docs/01-scope.md, "The root by hand"): from a bit pattern to the bytes of the text.
 -- Definitions only.
-use Rattle.std.specs.Prelude.{ℕ, zero, suc, ◌+◌, ◌-◌, ◌*◌, ◌/◌, ◌%◌, ◌^◌, Bool, cond, ◌&&◌, List, [], ◌++◌, leb, ltb, eqb, Float}
+use Rattle.std.specs.Prelude.{ℕ, zero, suc, ◌+◌, ◌-◌, ◌*◌, ◌/◌, ◌%◌, ◌^◌, Bool, cond, ◌&&◌, List, [], ◌++◌, leb, ltb, eqb, Float, Result, Ok, Err}
 use Rattle.text.specs.Text.{codes, decimal, hex}
-use Rattle.number.specs.declared.answer.Answered.{Answered}
-use Rattle.number.specs.declared.answer.Answered.TheVariants.{Value, Refused}
+use Rattle.number.specs.declared.refusal.Refusal.{Refusal}
+use Rattle.number.specs.declared.refusal.Refusal.TheVariants.{NotFinite}
 use Rattle.number.specs.declared.by_hand.Argument.{Argument}
 use Rattle.number.specs.declared.by_hand.Sheet.{Sheet}
-use Rattle.number.specs.Number.{answered, root_of, root_refusal}
+use Rattle.number.specs.Number.{answered, number_of, root_of, root_refusal}
 use Rattle.number.specs.Pattern.{float_of, bits_of}
 use Rattle.number.specs.ByHand.{argument_of, sheet_after}
 
@@ -93,16 +93,16 @@ worked x = cond (eqb (argument_of x).digits 0) [] (opening x (argument_of x) ++ 
 
 -- ---- the whole sheet
 -- a refusal in words
-unfoldable pub reason : ℕ → List ℕ
-reason n =
-    cond (eqb n 1) (codes "a number handed over is NaN or infinite")
-    (codes "a number lies beyond its range, or the split is neither 2 nor 3")
+unfoldable pub reason : Refusal → List ℕ
+reason NotFinite = codes "a number handed over is NaN or infinite"
+reason _ = codes "a number lies beyond its range, or the split is neither 2 nor 3"
 
 -- by what the square root answers
-unfoldable pub told : ℕ → Answered → List ℕ
-told bits (Value root) =
+unfoldable pub told : ℕ → Result Float Refusal → List ℕ
+told bits (Ok root) =
     named (codes "root of ") bits ++ worked (float_of bits) ++ named (codes "answer ") (bits_of root)
-told bits (Refused n) = hex bits ++ codes " refused " ++ decimal n ++ codes ": " ++ reason n ++ codes "\n"
+told bits (Err r) =
+    hex bits ++ codes " refused " ++ decimal (number_of r) ++ codes ": " ++ reason r ++ codes "\n"
 
 unfoldable pub sheet : ℕ → List ℕ
 sheet bits = told bits (answered (root_refusal (float_of bits)) (root_of (float_of bits)))

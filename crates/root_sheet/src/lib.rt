@@ -6,119 +6,114 @@
 mod numeral;
 mod row;
 
-ghost use Rattle.std.specs.Prelude.{◌≡◌, ◌++◌, ◌+◌, ◌≤◌, ◌<◌, length, drop};
-ghost use Rattle.text.specs.Text.{Put};
-ghost use Rattle.number.specs.declared.answer.Answered.TheVariants.{Value, Refused};
+ghost use Rattle.std.specs.Prelude.{◌≡◌, ◌++◌, ◌≤◌, length, drop, Ok, Err};
+ghost use Rattle.text.specs.Text.{Put, Written};
 ghost use Rattle.root_sheet.specs.RootSheet as Def;
 
 use crate::numeral::{put_difference, put_named};
 use crate::row::{put_row, put_rows};
-use number::answer::Answered;
 use number::by_hand::{Argument, argument_of, sheet_after};
 use number::pattern::{bits_of, float_of};
+use number::refusal::Refusal;
 use number::root::square_root;
-use text::{put_bytes, put_decimal, put_hex};
+use text::Page;
 
 // The argument's digits and its exponent.
-fn put_taken(out: &mut [u8], at: u32, a: Argument) -> usize
-    requires { at < 0x400_0000 }
-    ensures { Put out.old at (Def.taken a) out.new result × (result ≤ at + 38) }
+fn put_taken(page: &mut Page, a: Argument)
+    ensures { Written page.old (Def.taken a) page.new }
 {
-    let b = put_bytes(out, at, b"digits ");
-    let c = put_hex(out, b as u32, a.digits);
-    let d = put_bytes(out, c as u32, b", exponent ");
-    let e = put_difference(out, d as u32, a.exponent, 150);
-    put_bytes(out, e as u32, b"\n")
+    page.bytes(b"digits ");
+    page.hex(a.digits);
+    page.bytes(b", exponent ");
+    put_difference(page, a.exponent, 150);
+    page.bytes(b"\n");
 }
 
 // The exponent halved, and the number whose root is taken.
-fn put_halved(out: &mut [u8], at: u32, exponent: u32, n: u32) -> usize
-    requires { at < 0x400_0000 }
-    ensures { Put out.old at (Def.halved exponent n) out.new result × (result ≤ at + 36) }
+fn put_halved(page: &mut Page, exponent: u32, n: u32)
+    ensures { Written page.old (Def.halved exponent n) page.new }
 {
-    let a = put_bytes(out, at, b"halved ");
-    let b = put_difference(out, a as u32, exponent >> 1, 75);
-    let c = put_bytes(out, b as u32, b", number ");
-    let d = put_hex(out, c as u32, n);
-    put_bytes(out, d as u32, b"\n")
+    page.bytes(b"halved ");
+    put_difference(page, exponent >> 1, 75);
+    page.bytes(b", number ");
+    page.hex(n);
+    page.bytes(b"\n");
 }
 
 // What stands above the digits.
-fn put_opening(out: &mut [u8], at: u32, x: f32, a: Argument) -> usize
-    requires { at < 0x200_0000 }
-    ensures { Put out.old at (Def.opening x a) out.new result × (result ≤ at + 130) }
+fn put_opening(page: &mut Page, x: f32, a: Argument)
+    ensures { Written page.old (Def.opening x a) page.new }
 {
-    let s = sheet_after(x, 0);
-    let b = put_taken(out, at, a);
-    let c = put_halved(out, b as u32, a.exponent, s.left);
-    put_bytes(
-        out,
-        c as u32,
-        b"place    doubled  trial    fits left     root\n",
-    )
+    put_taken(page, a);
+    put_halved(page, a.exponent, sheet_after(x, 0).left);
+    page.bytes(b"place    doubled  trial    fits left     root\n");
 }
 
 // What stands below the digits: the one that rounds, and the digits of the answer.
-fn put_closing(out: &mut [u8], at: u32, x: f32) -> usize
-    requires { at < 0x200_0000 }
-    ensures { Put out.old at (Def.closing x) out.new result × (result ≤ at + 80) }
+fn put_closing(page: &mut Page, x: f32)
+    ensures { Written page.old (Def.closing x) page.new }
 {
     let s = sheet_after(x, 24);
     let t = sheet_after(x, 25);
-    let a = put_bytes(out, at, b"rounding\n");
-    let b = put_row(out, a as u32, 1, s, t);
-    let c = put_bytes(out, b as u32, b"rounded ");
-    let d = put_hex(out, c as u32, (t.twice + 2) >> 2);
-    put_bytes(out, d as u32, b"\n")
+    page.bytes(b"rounding\n");
+    put_row(page, 1, s, t);
+    page.bytes(b"rounded ");
+    page.hex((t.twice + 2) >> 2);
+    page.bytes(b"\n");
 }
 
 // All digits, of a number above zero.
-fn put_worked(out: &mut [u8], at: u32, x: f32) -> usize
-    requires { at < 0x100_0000 }
-    ensures { Put out.old at (Def.worked x) out.new result × (result ≤ at + 1410) }
+fn put_worked(page: &mut Page, x: f32)
+    ensures { Written page.old (Def.worked x) page.new }
 {
     let a = argument_of(x);
     if a.digits == 0 {
-        return at as usize;
+        return;
     }
-    let b = put_opening(out, at, x, a);
-    let c = put_rows(out, b as u32, x);
-    put_closing(out, c as u32, x)
+    put_opening(page, x, a);
+    put_rows(page, x);
+    put_closing(page, x);
 }
 
 // The sheet of an argument that is not refused, and its root.
-fn put_answered(out: &mut [u8], bits: u32, root: f32) -> usize
-    ensures { Put out.old 0 (Def.told bits (Value root)) out.new result × (result ≤ 4096) }
+fn put_answered(page: &mut Page, bits: u32, root: f32)
+    ensures { Written page.old (Def.told bits (Ok root)) page.new }
 {
-    let a = put_named(out, 0, b"root of ", bits);
-    let b = put_worked(out, a as u32, float_of(bits));
-    put_named(out, b as u32, b"answer ", bits_of(root))
+    put_named(page, b"root of ", bits);
+    put_worked(page, float_of(bits));
+    put_named(page, b"answer ", bits_of(root));
 }
 
 // A refusal in words.
-fn put_reason(out: &mut [u8], at: u32, n: u32) -> usize
-    ensures { Put out.old at (Def.reason n) out.new result × (result ≤ at + 63) }
+#[tactic(auto, unfolding(crate::specs::RootSheet::reason))]
+fn reason(refusal: Refusal) -> &'static [u8]
+    ensures { result.now ≡ Def.reason refusal }
 {
-    if n == 1 {
-        put_bytes(out, at, b"a number handed over is NaN or infinite")
-    } else {
-        put_bytes(
-            out,
-            at,
-            b"a number lies beyond its range, or the split is neither 2 nor 3",
-        )
+    match refusal {
+        Refusal::NotFinite => b"a number handed over is NaN or infinite",
+        _ => b"a number lies beyond its range, or the split is neither 2 nor 3",
     }
 }
 
-fn put_refused(out: &mut [u8], bits: u32, n: u32) -> usize
-    ensures { Put out.old 0 (Def.told bits (Refused n)) out.new result × (result ≤ 4096) }
+fn put_refused(page: &mut Page, bits: u32, refusal: Refusal)
+    ensures { Written page.old (Def.told bits (Err refusal)) page.new }
 {
-    let a = put_hex(out, 0, bits);
-    let b = put_bytes(out, a as u32, b" refused ");
-    let c = put_decimal(out, b as u32, n);
-    let d = put_bytes(out, c as u32, b": ");
-    let e = put_reason(out, d as u32, n);
-    put_bytes(out, e as u32, b"\n")
+    page.hex(bits);
+    page.bytes(b" refused ");
+    page.decimal(u32::from(refusal));
+    page.bytes(b": ");
+    page.bytes(reason(refusal));
+    page.bytes(b"\n");
+}
+
+// By what the square root answers.
+fn put_sheet(page: &mut Page, bits: u32)
+    ensures { Written page.old (Def.sheet bits) page.new }
+{
+    match square_root(float_of(bits)) {
+        Ok(root) => put_answered(page, bits, root),
+        Err(refusal) => put_refused(page, bits, refusal),
+    }
 }
 
 // Writes the sheet of the number with these bits into the buffer and answers its length. Where the buffer is shorter,
@@ -129,9 +124,7 @@ pub fn sheet(bits: u32, out: &mut [u8]) -> usize
     ensures whole { result ≤ length out.old
         → out.new ≡ Def.sheet bits ++ drop result out.old }
 {
-    let answer = square_root(float_of(bits));
-    match answer {
-        Answered::Value(root) => put_answered(out, bits, root),
-        Answered::Refused(n) => put_refused(out, bits, n),
-    }
+    let mut page = Page::new(out, 0);
+    put_sheet(&mut page, bits);
+    page.next_place()
 }

@@ -12,7 +12,12 @@ use lib.Ieee.Bits.{is_true}
 use lib.ListN.{length, take, drop, length-append, length-drop, take-append-drop, drop_of_length-le}
 use lib.Seq.{drop-drop, length-take-le}
 use Rattle.scene.specs.Scene.{word, displacements_at, pair_at, point_count, pair_count, limits_at, laid_out, are_pairs}
-use Rattle.scene.specs.Scene.{refused, scene_of}
+use Rattle.scene.specs.Scene.{scene_of}
+use Rattle.scene.specs.declared.layout.Scene.{Scene}
+use Rattle.number.specs.declared.refusal.Refusal.{Refusal}
+use Rattle.number.specs.declared.refusal.Refusal.TheVariants.{NoScene, BadPair}
+use Rattle.std.specs.Prelude.{Result, Ok, Err, is_ok}
+use Rattle.std.proofs.lemmas.Bool.{false≢true}
 use Rattle.scene.specs.Spelled.{spell, sections, Joined, Spelled, Taken}
 use Rattle.scene.proofs.FourBytes.{Bytes, word_spelled, spell_dropped}
 
@@ -142,43 +147,55 @@ module _ (s : List ℕ) (n m : ℕ) (x : Spelled s n m) where
         eq-eqb (pair_at n m + 4 + 12) (pair_at n m + 16) (omega arith),
       )
 
-  taken_whole : are_pairs s n m ≡ true → scene_of s ≡ record { refusal = 0; points = n; pairs = m }
+  taken_whole : are_pairs s n m ≡ true → scene_of s ≡ Ok (record { points = n; pairs = m })
   unfolding scene_of
   taken_whole h = rw (laid_of, fits.0, fits.1.1.0, h)
 
-  taken_bad : are_pairs s n m ≡ false → scene_of s ≡ refused 11
+  taken_bad : are_pairs s n m ≡ false → scene_of s ≡ Err BadPair
   unfolding scene_of
   taken_bad h = rw (laid_of, fits.0, fits.1.1.0, h)
 
 -- ---- what is read of a file
-sound_cases : (s : List ℕ) (n m : ℕ) (b d : Bool) → (b ≡ true → Spelled s n m) → are_pairs s n m ≡ d
-    → (cond b (cond d (record { refusal = 0; points = n; pairs = m }) (refused 11)) (refused 10)).refusal ≡ 0
-    → (b ≡ true) × (d ≡ true)
-sound_cases s n m true true f e h = (refl, refl)
-sound_cases s n m true false f e h = absurd (omega arith)
-sound_cases s n m false d f e h = absurd (omega arith)
+counts : Result Scene Refusal → ℕ × ℕ
+counts (Ok x) = (x.points, x.pairs)
+counts (Err r) = (0, 0)
 
-sound_of : (s : List ℕ) → Bytes s → (scene_of s).refusal ≡ 0
-    → Spelled s (scene_of s).points (scene_of s).pairs × (are_pairs s (scene_of s).points (scene_of s).pairs ≡ true)
+-- what a scene says of the two tests, and its counts
+record Told (b d : Bool) (p q : ℕ) (x : Scene) : Type 0 where
+  laid : b ≡ true
+  good : d ≡ true
+  points : p ≡ x.points
+  pairs : q ≡ x.pairs
+
+told : (b d : Bool) (p q : ℕ) (x : Scene)
+    → cond b (cond d (Ok (record { points = p; pairs = q })) (Err BadPair)) (Err NoScene) ≡ Ok x → Told b d p q x
+unfolding counts
+told true true p q x h =
+    record {
+      laid = refl;
+      good = refl;
+      points = ap (λ (r : Result Scene Refusal). (counts r).0) h;
+      pairs = ap (λ (r : Result Scene Refusal). (counts r).1) h;
+    }
+told true false p q x h = absurd (false≢true (ap is_ok h))
+told false d p q x h = absurd (false≢true (ap is_ok h))
+
+told_of : (s : List ℕ) (x : Scene) → scene_of s ≡ Ok x
+    → Told (laid_out s) (are_pairs s (point_count s) (pair_count s)) (point_count s) (pair_count s) x
 unfolding scene_of
-sound_of s b h =
-    let n = point_count s in
-    let m = pair_count s in
-    let both = sound_cases s n m (laid_out s) (are_pairs s n m) (spelled_of s b) refl h in
-    rw (both.0, both.1) (spelled_of s b both.0, both.1)
+told_of s x h = told (laid_out s) (are_pairs s (point_count s) (pair_count s)) (point_count s) (pair_count s) x h
 
-pub taken_of : (s : List ℕ) → Bytes s → Taken s (scene_of s)
-taken_of s b = record { sound = sound_of s b; whole = taken_whole s; bad = taken_bad s }
+sound_of : (s : List ℕ) → Bytes s → (n m : ℕ) → scene_of s ≡ Ok (record { points = n; pairs = m })
+    → Spelled s n m × (are_pairs s n m ≡ true)
+sound_of s b n m h =
+    let t = told_of s (record { points = n; pairs = m }) h in
+    rw (← t.points, ← t.pairs) (spelled_of s b t.laid, t.good)
 
-few : (b d : Bool) (n m : ℕ) → (b ≡ true → m ≤ 1024)
-    → (cond b (cond d (record { refusal = 0; points = n; pairs = m }) (refused 11)) (refused 10)).pairs ≤ 1024
-few true true n m h = h refl
-few true false n m h = omega arith
-few false d n m h = omega arith
+pub taken_of : (s : List ℕ) → Bytes s → (r : Result Scene Refusal) → r ≡ scene_of s → Taken s r
+taken_of s b r e = rw e (record { sound = sound_of s b; whole = taken_whole s; bad = taken_bad s })
 
 -- a scene has at most 1,024 pairs
-pub few_pairs : (s : List ℕ) → (scene_of s).pairs ≤ 1024
-unfolding scene_of
-few_pairs s =
-    few (laid_out s) (are_pairs s (point_count s) (pair_count s)) (point_count s) (pair_count s)
-    (λ h. (laid_facts s h).few_pairs)
+pub few_pairs : (s : List ℕ) (x : Scene) → scene_of s ≡ Ok x → x.pairs ≤ 1024
+few_pairs s x h =
+    let t = told_of s x h in
+    rw (← t.pairs) ((laid_facts s t.laid).few_pairs)

@@ -1,12 +1,15 @@
 -- A scene file: its words, whether it is a scene, and the safe time of each of its pairs (docs/01-scope.md, "The scene
 -- file"). A file is the list of its bytes; where it ends, zeros follow. Definitions only.
-use Rattle.std.specs.Prelude.{ℕ, ◌+◌, ◌*◌, zero, suc, Bool, true, cond, ◌&&◌, ◌||◌, List, [], ◌∷◌, ltb, leb, eqb, get_or, length, Float}
+use Rattle.std.specs.Prelude.{ℕ, ◌+◌, ◌*◌, zero, suc, Bool, true, cond, ◌&&◌, ◌||◌, List, [], ◌∷◌, ltb, leb, eqb}
+use Rattle.std.specs.Prelude.{length, get_or, Result, Ok, Err, Float}
 use Rattle.std.specs.Float.{binary32}
 use Rattle.std.specs.Float.Ieee.{of_bits}
 use Rattle.geometry.specs.Geometry.{vec}
 use Rattle.ccd3.specs.declared.SafeTime.{SafeTime}
 use Rattle.own_time.specs.OwnTime.{own_safe_time, OwnPromises, OwnSpeed}
 use Rattle.scene.specs.declared.layout.Scene.{Scene}
+use Rattle.number.specs.declared.refusal.Refusal.{Refusal}
+use Rattle.number.specs.declared.refusal.Refusal.TheVariants.{NoScene, BadPair}
 
 -- ---- words and numbers
 -- the four bytes from place i on, the least significant first
@@ -64,17 +67,14 @@ unfoldable pub are_pairs : List ℕ → ℕ → ℕ → Bool
 are_pairs s n zero = true
 are_pairs s n (suc k) = is_pair s (pair_at n k) n && are_pairs s n k
 
-abbrev pub refused : ℕ → Scene
-refused r = record { refusal = r; points = 0; pairs = 0 }
-
 -- what the file is: 10 before 11
-unfoldable pub scene_of : List ℕ → Scene
+unfoldable pub scene_of : List ℕ → Result Scene Refusal
 scene_of s =
     cond (laid_out s)
     (cond (are_pairs s (point_count s) (pair_count s))
-    (record { refusal = 0; points = point_count s; pairs = pair_count s })
-    (refused 11))
-    (refused 10)
+    (Ok (record { points = point_count s; pairs = pair_count s }))
+    (Err BadPair))
+    (Err NoScene)
 
 -- ---- a pair and its safe time
 -- the point whose number stands at place p, out of the points that begin at place b

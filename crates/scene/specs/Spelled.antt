@@ -1,7 +1,9 @@
 -- A scene file as it is put together, section after section (docs/01-scope.md, "The scene file"). Definitions only.
-use Rattle.std.specs.Prelude.{ℕ, ◌*◌, ◌/◌, ◌%◌, ◌≤◌, ◌≡◌, true, false, List, [], ◌∷◌, ◌++◌, length}
+use Rattle.std.specs.Prelude.{ℕ, ◌*◌, ◌/◌, ◌%◌, ◌≤◌, ◌≡◌, true, false, List, [], ◌∷◌, ◌++◌, length, Result, Ok, Err}
 use Rattle.scene.specs.declared.layout.Scene.{Scene}
-use Rattle.scene.specs.Scene.{are_pairs, refused}
+use Rattle.number.specs.declared.refusal.Refusal.{Refusal}
+use Rattle.number.specs.declared.refusal.Refusal.TheVariants.{BadPair}
+use Rattle.scene.specs.Scene.{are_pairs}
 
 -- a count as its four bytes, the least significant first
 unfoldable pub spell : ℕ → List ℕ
@@ -28,8 +30,7 @@ pub record Spelled (file : List ℕ) (n m : ℕ) : Type 0 where
 
 -- What is read of a file: it is taken as a scene only if it is one of these counts; each such scene is taken; each that
 -- is laid out so and has a bad pair is refused by 11.
-pub record Taken (file : List ℕ) (r : Scene) : Type 0 where
-  pub sound : r.refusal ≡ 0 → Spelled file r.points r.pairs × (are_pairs file r.points r.pairs ≡ true)
-  pub whole : (n m : ℕ) → Spelled file n m → are_pairs file n m ≡ true
-      → r ≡ record { refusal = 0; points = n; pairs = m }
-  pub bad : (n m : ℕ) → Spelled file n m → are_pairs file n m ≡ false → r ≡ refused 11
+pub record Taken (file : List ℕ) (r : Result Scene Refusal) : Type 0 where
+  pub sound : (n m : ℕ) → r ≡ Ok (record { points = n; pairs = m }) → Spelled file n m × (are_pairs file n m ≡ true)
+  pub whole : (n m : ℕ) → Spelled file n m → are_pairs file n m ≡ true → r ≡ Ok (record { points = n; pairs = m })
+  pub bad : (n m : ℕ) → Spelled file n m → are_pairs file n m ≡ false → r ≡ Err BadPair

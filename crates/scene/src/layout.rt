@@ -1,88 +1,69 @@
 // Whether a file is a scene (docs/01-scope.md, "The scene file"): refusal 10, the layout is wrong; 11, it is right and
 // some pair has a bad split or point number.
-ghost use Rattle.std.specs.Prelude.{◌≡◌, ◌<◌};
+ghost use Rattle.std.specs.Prelude.{◌≡◌};
 ghost use Rattle.scene.specs.Scene as Def;
 ghost use Rattle.scene.specs.Spelled.{Taken};
 
-use crate::places::{displacements_at, limits_at, pair_at, pair_count, point_count};
+use crate::pairs::corners;
+use crate::places::{File, displacements_at};
+use number::refusal::Refusal;
 use crate::words::word;
 
-// What a file turns out to be: its refusal, 0 for none, and how many points and pairs it has, 0 where refused.
+// A scene: how many points and how many pairs it has.
 #[derive(Clone, Copy)]
 pub struct Scene {
-    pub refusal: u32,
     pub points: u32,
     pub pairs: u32,
 }
 
 // The four sections stand in their order, each after its count, and nothing is left over.
-fn is_laid_out(s: &[u8]) -> bool
-    ensures { result ≡ Def.laid_out s.now }
+#[tactic(auto, unfolding(crate::specs::Scene::laid_out))]
+fn is_laid_out(file: File) -> bool
+    ensures { result ≡ Def.laid_out file.entry.bytes.now }
 {
-    let points = point_count(s);
-    let limits = limits_at(s);
-    (points <= 1024)
-        & (word(s, displacements_at(points)) == points)
-        & (pair_count(s) <= 1024)
-        & (word(s, limits) == 1)
-        & (s.len() == limits + 16)
+    let limits = file.limits_at();
+    (file.point_count <= 1024)
+        & (word(file.bytes, displacements_at(file.point_count)) == file.point_count)
+        & (file.pair_count <= 1024)
+        & (word(file.bytes, limits) == 1)
+        & (file.bytes.len() == limits + 16)
 }
 
-// The split of the pair that begins at byte `at` is 2 or 3, and each of its point numbers is below the count.
-fn is_pair(s: &[u8], at: usize, points: u32) -> bool
-    requires { at < 0x40_0000_0000 }
-    ensures { result ≡ Def.is_pair s.now at points }
+// The split of the pair is 2 or 3, and each of its point numbers is below the count.
+#[tactic(auto, unfolding(crate::specs::Scene::is_pair))]
+fn is_pair(pair: &[u8], point_count: u32) -> bool
+    ensures { result ≡ Def.is_pair pair.now 0 point_count }
 {
-    let split = word(s, at);
-    ((split == 2) | (split == 3))
-        & (word(s, at + 4) < points)
-        & (word(s, at + 8) < points)
-        & (word(s, at + 12) < points)
-        & (word(s, at + 16) < points)
+    let [a, b, c, d] = corners(pair);
+    matches!(word(pair, 0), 2 | 3)
+        & (a < point_count)
+        & (b < point_count)
+        & (c < point_count)
+        & (d < point_count)
 }
 
-// Each of the first `pairs` pairs is so.
-fn are_pairs(s: &[u8], points: u32, pairs: u32) -> bool
-    ensures { result ≡ Def.are_pairs s.now points pairs }
+// Each pair is so.
+fn are_pairs(file: File) -> bool
+    ensures { result ≡ Def.are_pairs file.entry.bytes.now file.entry.point_count file.entry.pair_count }
 {
-    let mut good = true;
-    let mut i: u32 = 0;
-    while i < pairs {
-        good = is_pair(s, pair_at(points, i), points) & good;
-        i += 1;
-    }
-    good
-}
-
-// A refused file has no counts.
-fn refused(refusal: u32) -> Scene
-    ensures { result ≡ Def.refused refusal }
-{
-    Scene {
-        refusal,
-        points: 0,
-        pairs: 0,
-    }
+    (0..file.pair_count).all(|index| is_pair(file.pair(index), file.point_count))
 }
 
 // What the file is: the layout is tested first, then the pairs.
-pub fn read(s: &[u8]) -> Scene
+#[tactic(auto, using(crate::proofs::Spelling::taken_of), unfolding(crate::specs::Scene::scene_of))]
+pub fn read(s: &[u8]) -> Result<Scene, Refusal>
     ensures scene { result ≡ Def.scene_of s.now }
     ensures taken { Taken s.now result }
 {
-    if is_laid_out(s) {
-        let points = point_count(s);
-        let pairs = pair_count(s);
-        if are_pairs(s, points, pairs) {
-            Scene {
-                refusal: 0,
-                points,
-                pairs,
-            }
-        } else {
-            refused(11)
-        }
-    } else {
-        refused(10)
+    let file = File::of(s);
+    if !is_laid_out(file) {
+        return Err(Refusal::NoScene);
     }
+    if !are_pairs(file) {
+        return Err(Refusal::BadPair);
+    }
+    Ok(Scene {
+        points: file.point_count,
+        pairs: file.pair_count,
+    })
 }

@@ -1,42 +1,44 @@
-// Words of four bytes, little-endian, and numbers by their bits. Where the file ends, zeros follow.
-ghost use Rattle.std.specs.Prelude.{◌≡◌, ◌<◌, get_or};
+// Words of four bytes, little-endian, and numbers by their bits. Where the bytes end, zeros follow.
+ghost use Rattle.std.specs.Prelude.{◌≡◌, get_or, drop};
 ghost use Rattle.scene.specs.Scene as Def;
 
 use number::pattern::float_of;
 
-fn wide(b: u8) -> u32
-    ensures { (result ≡ b) × (result < 256) }
+// The bytes from place `at` on.
+pub(crate) fn from(s: &[u8], at: usize) -> &[u8]
+    ensures { result.now ≡ drop at s.now }
 {
-    b as u32
+    s.get(at..).unwrap_or(&[])
 }
 
 // Byte `at`.
-fn byte(s: &[u8], at: usize) -> u32
-    ensures { (result ≡ get_or s.now at 0) × (result < 256) }
+fn byte(s: &[u8], at: usize) -> u8
+    ensures { result ≡ get_or s.now at 0 }
 {
-    if at < s.len() { wide(s[at]) } else { 0 }
+    s.get(at).copied().unwrap_or(0)
 }
 
 // The word at byte `at`.
+#[tactic(auto, using(crate::proofs::Parts::word_begins), unfolding(crate::specs::Scene::word))]
 pub(crate) fn word(s: &[u8], at: usize) -> u32
-    requires { at < 0x100_0000_0000 }
     ensures { result ≡ Def.word s.now at }
 {
-    byte(s, at) + 256 * byte(s, at + 1) + 65536 * byte(s, at + 2) + 16777216 * byte(s, at + 3)
+    let rest = from(s, at);
+    u32::from_le_bytes([byte(rest, 0), byte(rest, 1), byte(rest, 2), byte(rest, 3)])
 }
 
 // The number at byte `at`.
 pub(crate) fn number(s: &[u8], at: usize) -> f32
-    requires { at < 0x100_0000_0000 }
     ensures { result ≡ Def.number s.now at }
 {
     float_of(word(s, at))
 }
 
-// Three numbers from byte `at` on.
+// The point at byte `at`: three numbers.
+#[tactic(auto, using(crate::proofs::Parts::point_begins))]
 pub(crate) fn point(s: &[u8], at: usize) -> [f32; 3]
-    requires { at < 0xff_0000_0000 }
     ensures { result ≡ Def.point s.now at }
 {
-    [number(s, at), number(s, at + 4), number(s, at + 8)]
+    let rest = from(s, at);
+    [number(rest, 0), number(rest, 4), number(rest, 8)]
 }

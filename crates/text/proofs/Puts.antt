@@ -1,45 +1,54 @@
--- Text put after text, and what that says of the buffer. Assumes nothing.
-use Prim.Native.Nat.{ℕ, suc, ◌+◌, ◌≤◌}
-use native.Mathlib.Nat.{add-zero, add-suc, suc-add, add_assoc}
+-- Text written after text, and what that says of the buffer behind the page. Assumes nothing.
+use Prim.Native.Nat.{ℕ, ◌+◌, ◌≤◌}
+use native.Mathlib.Omega.{arith}
 use mathlib.Core.Path.{◌≡◌, refl, sym, ap, subst, ◌∙◌}
-use mathlib.Core.List.{List, [], ◌∷◌, ◌++◌}
+use mathlib.Core.List.{List, [], ◌++◌}
 use lib.ListN.{length, drop, length-append}
 use lib.Seq.{sets, sets-eq, length-sets}
-use Rattle.text.specs.Text.{Put}
+use Rattle.std.specs.Borrow.{MutBor}
+use Rattle.text.specs.Text.{Put, Starts, Written, most}
+use Rattle.text.specs.declared.Page.{Page}
+use Rattle.text.proofs.Sets.{sets_counted}
 
-pub sets_append : (a b l : List ℕ) (i : ℕ) → sets (sets l i a) (i + length a) b ≡ sets l i (a ++ b)
-sets_append [] b l i = ap (λ (k : ℕ). sets l k b) (add-zero i)
-sets_append (x ∷ a) b l i =
-    ap (λ (k : ℕ). sets (sets l i (x ∷ a)) k b) (add-suc i (length a) ∙ sym (suc-add i (length a)))
-    ∙ sets_append a b _ (suc i)
+-- one text, and then another where it ended
+pub and_then : {p q r : Page} {a b : List ℕ} → Written p a q → Written q b r → Written p (a ++ b) r
+and_then {p} {q} {r} {a} {b} v w = record {
+  same_buffer = w.same_buffer ∙ v.same_buffer;
+  fits = v.fits;
+  wrote =
+      w.wrote
+      ∙ ap (λ (l : List ℕ). sets l q.at b) v.wrote
+      ∙ sets_counted a b p.out.now p.at q.at v.fits v.counted;
+  counted = omega (arith, length-append a b);
+}
 
-module _ {o o' o'' a b : List ℕ} {i j k : ℕ} where
-  -- one text, and then another where it ended
-  pub and_then : Put o i a o' j → Put o' j b o'' k → Put o i (a ++ b) o'' k
-  and_then p q = record {
-    wrote =
-        q.wrote
-        ∙ ap (λ (l : List ℕ). sets l j b) p.wrote
-        ∙ ap (λ (n : ℕ). sets (sets o i a) n b) p.moved
-        ∙ sets_append a b o i;
-    moved =
-        q.moved
-        ∙ ap (λ (n : ℕ). n + length b) p.moved
-        ∙ add_assoc i (length a) (length b)
-        ∙ ap (λ (n : ℕ). i + n) (sym (length-append a b));
-  }
+-- nothing is written
+pub nothing : {p : Page} → length p.out.now ≤ most → Written p [] p
+nothing h = record { same_buffer = refl; fits = h; wrote = refl; counted = omega arith }
 
 -- the buffer keeps its length
-pub keeps_length : {o o' a : List ℕ} {i j : ℕ} → Put o i a o' j → length o' ≡ length o
-keeps_length {o} {o'} {a} {i} p = ap length p.wrote ∙ length-sets o i a
-
--- nothing is put
-pub nothing : (o : List ℕ) (i : ℕ) → Put o i [] o i
-nothing o i = record { wrote = refl; moved = sym (add-zero i) }
+pub still_fits : {p q : Page} {a : List ℕ} → Written p a q → length q.out.now ≤ most
+still_fits {p} {q} {a} w = omega (arith, w.fits, ap length w.wrote, length-sets p.out.now p.at a)
 
 -- another name for the text
-pub as_text : {o o' a b : List ℕ} {i j : ℕ} → a ≡ b → Put o i a o' j → Put o i b o' j
-as_text {o} {o'} {a} {b} {i} {j} e p = rw e at p
+pub as_text : {p q : Page} {a b : List ℕ} → a ≡ b → Written p a q → Written p b q
+as_text e w = rw e at w
+
+-- what was written on a page from its start on is put into the buffer behind it
+pub put : {o : MutBor (List ℕ)} {p q : Page} {a o' : List ℕ} {i j : ℕ} → Starts o i p → Written p a q
+    → i + length a ≤ most → o' ≡ q.out.now → j ≡ q.at → Put o.now i a o' j
+put {o} {p} {q} {a} {o'} {i} n w h e f = record {
+  wrote =
+      e
+      ∙ w.wrote
+      ∙ ap (λ (l : List ℕ). sets l p.at a) n.nothing_written
+      ∙ ap (λ (k : ℕ). sets o.now k a) n.at_place;
+  moved = omega (arith, w.counted, n.at_place);
+}
+
+-- the place after a text that is put at the start is as far as the text is long
+pub no_longer : {o o' a : List ℕ} {j n : ℕ} → Put o 0 a o' j → length a ≤ n → j ≤ n
+no_longer p h = omega (arith, p.moved)
 
 -- a text at the start of a buffer that holds it: what lies behind it is as it was
 pub whole_text : {o o' a : List ℕ} {j : ℕ} → Put o 0 a o' j → j ≤ length o → o' ≡ a ++ drop j o

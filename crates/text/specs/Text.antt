@@ -1,10 +1,12 @@
 -- Text as the list of its bytes, in ASCII: a text between quotes, a number in decimal and in hexadecimal, whose digits
--- are the toolchain's, and what it means that a text is put into a buffer. Definitions only.
-use Rattle.std.specs.Prelude.{ℕ, zero, suc, ◌+◌, ◌^◌, ◌≡◌, cond, List, [] as none, ◌∷◌ as ◌then◌, ltb, length}
+-- are the toolchain's, and what it means that a text is put into a buffer or written on a page over one. Definitions only.
+use Rattle.std.specs.Prelude.{ℕ, zero, suc, ◌+◌, ◌-◌, ◌^◌, ◌≡◌, ◌≤◌, min, cond, List, [] as none, ◌∷◌ as ◌then◌, ltb, length}
 use Prim.Native.Char.{code}
 use Prim.Native.String.{String, [], ◌∷◌}
+use Rattle.std.specs.Borrow.{MutBor}
 use Rattle.std.proofs.lemmas.List.Edits.{sets}
 use Rattle.io.specs.Digits.{last_digits}
+use Rattle.text.specs.declared.Page.{Page}
 
 -- the codes of a text's characters
 abbrev pub codes : String → List ℕ
@@ -29,3 +31,21 @@ hex n = last_digits 16 8 n
 pub record Put (before : List ℕ) (at : ℕ) (text : List ℕ) (after : List ℕ) (next : ℕ) : Type 0 where
   pub wrote : after ≡ sets before at text
   pub moved : next ≡ at + length text
+
+-- the greatest count of bytes
+abbrev pub most : ℕ
+most = 2 ^ 64 - 1
+
+-- a page over a lent buffer starts at a place: nothing is written yet
+pub record Starts (buffer : MutBor (List ℕ)) (at : ℕ) (page : Page) : Type 0 where
+  pub same_buffer : page.out.ghost_name ≡ buffer.ghost_name
+  pub nothing_written : page.out.now ≡ buffer.now
+  pub at_place : page.at ≡ at
+
+-- A text was written on a page after what was there. What lies past the end of the buffer is not written, and is
+-- counted; the count stops at the greatest one.
+pub record Written (before : Page) (text : List ℕ) (after : Page) : Type 0 where
+  pub same_buffer : after.out.ghost_name ≡ before.out.ghost_name
+  pub fits : length before.out.now ≤ most
+  pub wrote : after.out.now ≡ sets before.out.now before.at text
+  pub counted : after.at ≡ before.at + min (length text) (most - before.at)

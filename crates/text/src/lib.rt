@@ -1,48 +1,59 @@
-// Text in a lent buffer. Each function writes at place `at` and answers the place after what it wrote; what lies past
-// the buffer's end is counted and not written.
+// Text in a lent buffer: a page over it, on which bytes and numbers are written one after the other.
 
 #![tactic(auto)]
 
-ghost use Rattle.std.specs.Prelude.{[], ◌∷◌, ◌<◌, ◌≤◌, ◌+◌};
-ghost use Rattle.text.specs.Text.{Put};
+ghost use Rattle.std.specs.Prelude.{◌≡◌, ◌≤◌, length};
+ghost use Rattle.text.specs.Text.{Starts, Written};
 ghost use Rattle.text.specs.Text as Def;
 
-fn put_byte(out: &mut [u8], at: usize, b: u8) -> usize
-    requires { at + 1 < 0x1_0000_0000_0000_0000 }
-    ensures { Put out.old at (b ∷ []) out.new result }
-{
-    if at < out.len() {
-        out[at] = b;
+// A lent buffer and the place of the next byte. What lies past the buffer's end is counted and not written.
+#[derive(Drop)]
+pub struct Page<'a> {
+    out: &'a mut [u8],
+    at: usize,
+}
+
+impl<'a> Page<'a> {
+    // A page whose first byte goes to place `at`.
+    pub fn new(out: &'a mut [u8], at: usize) -> Page<'a>
+        ensures { Starts out.entry at result }
+    {
+        Page { out, at }
     }
-    at + 1
-}
 
-pub fn put_bytes(out: &mut [u8], at: u32, text: &[u8]) -> usize
-    ensures { Put out.old at text.now out.new result }
-{
-    let mut to = at as usize;
-    let mut i = 0;
-    while i < text.len() {
-        to = put_byte(out, to, text[i]);
-        i += 1;
+    // The place of the next byte: of a page that began at 0, how many bytes were written, those past the end too.
+    pub fn next_place(&self) -> usize
+        ensures { result ≡ self.now.at }
+    {
+        self.at
     }
-    to
-}
 
-// The decimal digits of n, none of them a zero in front.
-pub fn put_decimal(out: &mut [u8], at: u32, n: u32) -> usize
-    ensures { Put out.old at (Def.decimal n) out.new result × (result ≤ at + 10) }
-{
-    let mut digits = [0u8; 20];
-    let k = io::decimal(n as u64, &mut digits);
-    put_bytes(out, at, &digits[..k])
-}
+    pub fn bytes(&mut self, text: &[u8])
+        ensures { Written self.old text.now self.new }
+    {
+        let start = self.at.min(self.out.len());
+        let shown = text.len().min(self.out.len() - start);
+        self.out[start..start + shown].copy_from_slice(&text[..shown]);
+        self.at = self.at.saturating_add(text.len());
+    }
 
-// The eight hexadecimal digits of n, in lower case.
-pub fn put_hex(out: &mut [u8], at: u32, n: u32) -> usize
-    ensures { Put out.old at (Def.hex n) out.new result × (result ≤ at + 8) }
-{
-    let mut digits = [0u8; 16];
-    let k = io::hex(n as u64, 8, &mut digits);
-    put_bytes(out, at, &digits[..k])
+    // The decimal digits of n, none of them a zero in front.
+    pub fn decimal(&mut self, n: u32)
+        ensures written { Written self.old (Def.decimal n) self.new }
+        ensures short { length (Def.decimal n) ≤ 10 }
+    {
+        let mut digits = [0u8; 20];
+        let k = io::decimal(u64::from(n), &mut digits);
+        self.bytes(&digits[..k]);
+    }
+
+    // The eight hexadecimal digits of n, in lower case.
+    pub fn hex(&mut self, n: u32)
+        ensures written { Written self.old (Def.hex n) self.new }
+        ensures short { length (Def.hex n) ≤ 8 }
+    {
+        let mut digits = [0u8; 16];
+        let k = io::hex(u64::from(n), 8, &mut digits);
+        self.bytes(&digits[..k]);
+    }
 }

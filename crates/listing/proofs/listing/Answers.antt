@@ -1,37 +1,11 @@
--- What is listed goes by the refusal.
-use Rattle.std.proofs.Common.{◌≡◌, ℕ, zero, suc, List, refl, rules}
-use Rattle.scene.specs.declared.layout.Scene.{Scene}
-use Rattle.scene.specs.Scene.{scene_of}
-use Rattle.scene.proofs.Spelling.{few_pairs}
-use Rattle.text.specs.Text.{codes}
-use Rattle.text.proofs.Puts.{as_text, whole_text}
-use Rattle.listing.specs.Listing.{counted, listed, listing}
+-- What is written on the page is put into the buffer.
+use Rattle.std.proofs.Common.{rules, arith}
+use Rattle.text.proofs.Puts.{put, no_longer, whole_text}
+use Rattle.listing.proofs.Lengths.{listing_short}
 use Rattle.listing.proofs.listing.Goals as goal
 
-module _ (s : List ℕ) (x : Scene) (e : x ≡ scene_of s) where
-  lists : x.refusal ≡ 0 → listed s 0 x.pairs ≡ listing s
-  unfolding listing
-  lists z = rw (← e, z)
-
-  refuses : (x.refusal ≡ 0 → ⊥) → counted (codes "scene refused ") x.refusal ≡ listing s
-  unfolding listing listed
-  refuses n = rw (← e) (by_number x.refusal n)
-    where
-      by_number : (r : ℕ) → (r ≡ 0 → ⊥) → counted (codes "scene refused ") r ≡ listed s r x.pairs
-      by_number zero n = absurd (n refl)
-      by_number (suc r) n = refl
-
-pub put_pairs-requires : goal.put_pairs-requires
-put_pairs-requires c = rw c.read-scene.ensures.scene (few_pairs _)
-
-pub returns-then-scene-eq0 : goal.returns-then-scene-eq0
-returns-then-scene-eq0 c =
-    let read = c.read-scene in
-    let text = as_text (lists _ read.result read.ensures.scene c.if-scene-eq0.true) c.put_pairs.ensures.0 in
-    record { text = text; short = c.put_pairs.ensures.1; whole = whole_text text }
-
-pub returns-else-scene-eq0 : goal.returns-else-scene-eq0
-returns-else-scene-eq0 c =
-    let read = c.read-scene in
-    let text = as_text (refuses _ read.result read.ensures.scene c.if-scene-eq0.false) c.put_counted.ensures.0 in
-    record { text = text; short = search rules; whole = whole_text text }
+pub returns : goal.returns
+returns c =
+    let few = listing_short c.args.s.now in
+    let text = put c.new-page.ensures c.put_listing.ensures (omega arith) (search rules) c.next_place.ensures in
+    record { text = text; short = no_longer text few; whole = whole_text text }

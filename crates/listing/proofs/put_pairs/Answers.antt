@@ -1,7 +1,6 @@
 -- Line after line.
-use Rattle.std.proofs.Common.{◌≡◌, ℕ, ◌+◌, List, ◌++◌, ap, rules, add-one}
-use native.Mathlib.Nat.{le_antisymm}
-use Rattle.text.proofs.Puts.{and_then, as_text, nothing}
+use Rattle.std.proofs.Common.{◌≡◌, ℕ, ◌+◌, List, ◌++◌, ap, arith, add-one}
+use Rattle.text.proofs.Puts.{and_then, as_text, nothing, still_fits}
 use Rattle.scene.specs.Scene.{safe_time_at}
 use Rattle.listing.specs.Listing.{line, lines, listed}
 use Rattle.listing.proofs.put_pairs.Goals as goal
@@ -12,21 +11,15 @@ one_more s i = rw add-one
 
 pub loop-i-init : goal.loop-i-init
 unfolding lines
-loop-i-init c = record { few = search rules; short = search rules; put = nothing _ _ }
+loop-i-init c = nothing (still_fits c.put_counted.ensures)
 
 pub loop-i-preserved : goal.loop-i-preserved
 loop-i-preserved c =
-    let put = rw c.safe_time.ensures.answer at c.put_line-at.ensures.0 in
-    record {
-      few = search rules;
-      short = search rules;
-      put = as_text (one_more _ _) (and_then c.loop-i.invariant.put put);
-    }
+    let line = rw c.safe_time.ensures.answer at c.put_line.ensures in
+    as_text (one_more _ _) (and_then c.loop-i.invariant line)
 
 pub returns : goal.returns
 unfolding listed
 returns c =
-    let end = le_antisymm c.loop-i.invariant.few c.loop-i-test.false in (
-      and_then c.put_counted-at.ensures.0 (as_text (ap (lines _) end) c.loop-i.invariant.put),
-      search rules,
-    )
+    let end : c.loop-i.i ≡ c.args.scene.pairs = omega arith in
+    and_then c.put_counted.ensures (as_text (ap (lines _) end) c.loop-i.invariant)

@@ -1,5 +1,4 @@
 -- Text after text.
-use borrow.Author.Rules.{rules}
 use Rattle.text.proofs.Puts.{and_then}
 use Rattle.root_sheet.specs.RootSheet.{told}
 use Rattle.root_sheet.proofs.put_answered.Goals as goal
@@ -7,6 +6,6 @@ use Rattle.root_sheet.proofs.put_answered.Goals as goal
 pub returns : goal.returns
 unfolding told
 returns c =
-    let digits = rw c.float_of.ensures at c.put_worked-b.ensures.0 in
-    let last = rw c.bits_of.ensures at c.put_named.ensures.0 in
-    (and_then (and_then c.put_named-a.ensures.0 digits) last, search rules)
+    let digits = rw c.float_of.ensures at c.put_worked.ensures in
+    let last = rw c.bits_of.ensures at c.put_named-2.ensures in
+    and_then (and_then c.put_named.ensures digits) last

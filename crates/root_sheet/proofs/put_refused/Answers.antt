@@ -1,17 +1,12 @@
 -- Text after text.
-use borrow.Author.Rules.{rules}
 use Rattle.text.proofs.Puts.{and_then}
 use Rattle.root_sheet.specs.RootSheet.{told}
 use Rattle.root_sheet.proofs.put_refused.Goals as goal
 
 pub returns : goal.returns
 unfolding told
-returns c = (
-  and_then (and_then (and_then (and_then (and_then c.put_hex-a.ensures.0
-      c.put_bytes-b.ensures)
-      c.put_decimal-c.ensures.0)
-      c.put_bytes-d.ensures)
-      c.put_reason-e.ensures.0)
-      c.put_bytes.ensures,
-  search rules,
-)
+returns c =
+    let number = rw c.from.ensures at c.decimal.ensures.written in
+    let words = rw c.reason.ensures at c.bytes-3.ensures in
+    and_then (and_then (and_then (and_then (and_then c.hex.ensures.written c.bytes.ensures) number) c.bytes-2.ensures) words)
+    c.bytes-4.ensures

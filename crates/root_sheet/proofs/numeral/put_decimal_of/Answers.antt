@@ -1,7 +1,6 @@
 -- A zero by its sign.
 use mathlib.Core.Path.{sym, ap, ◌∙◌, subst}
 use Prim.Native.Nat.{◌^◌, ◌<◌}
-use borrow.Author.Rules.{rules}
 use borrow.Author.Tests.{eq-eqb, ne_eqb}
 use lib.Ieee.{binary32}
 use lib.Ieee.Bits.{of_bits-fits}
@@ -11,32 +10,27 @@ use Rattle.number.specs.ByHand.{argument_of}
 use Rattle.number.proofs.SquareRoot.Taken.{digits_short}
 use Rattle.root_sheet.specs.RootSheet.{decimal_of}
 use Rattle.root_sheet.proofs.numeral.put_decimal_of.Goals as goal
+use Rattle.root_sheet.proofs.numeral.put_decimal_of.Goals.{then-bits-eq0, else-bits-eq0}
 
 pub put_value-requires : goal.put_value-requires
 put_value-requires c =
-    let e = c.argument_of-a.ensures ∙ ap argument_of c.float_of.ensures in (
-      c.requires,
-      subst (λ (b : Argument). b.digits < 2 ^ 24) (sym e)
-          (digits_short (float_of c.args.bits) (of_bits-fits binary32 c.args.bits)),
-    )
+    let e = c.argument_of-a.ensures ∙ ap argument_of c.float_of.ensures in
+    subst (λ (b : Argument). b.digits < 2 ^ 24) (sym e)
+    (digits_short (float_of c.args.bits) (of_bits-fits binary32 c.args.bits))
 
-pub returns-then-bits-eq0 : goal.returns-then-bits-eq0
+pub returns-after-bits-eq0 : goal.returns-after-bits-eq0
 unfolding decimal_of
-returns-then-bits-eq0 c =
-    let e = c.argument_of-a.ensures in
-    let f = c.float_of.ensures in
-    rw (← f, ← e, eq-eqb _ _ c.if-a-eq0.true, eq-eqb _ _ c.if-bits-eq0.true) (c.put_bytes.ensures, search rules)
-
-pub returns-else-bits-eq0 : goal.returns-else-bits-eq0
-unfolding decimal_of
-returns-else-bits-eq0 c =
-    let e = c.argument_of-a.ensures in
-    let f = c.float_of.ensures in
-    rw (← f, ← e, eq-eqb _ _ c.if-a-eq0.true, ne_eqb _ _ c.if-bits-eq0.false) (c.put_bytes-else-bits-eq0.ensures, search rules)
+returns-after-bits-eq0 c =
+    elim c.if-bits-eq0.branch [
+      | then-bits-eq0 w ↦
+          rw (← c.float_of.ensures, ← c.argument_of-a.ensures, eq-eqb _ _ c.if-a-eq0.true, eq-eqb _ _ w.if-bits-eq0.true)
+          (rw w.bytes-is at c.bytes.ensures)
+      | else-bits-eq0 w ↦
+          rw (← c.float_of.ensures, ← c.argument_of-a.ensures, eq-eqb _ _ c.if-a-eq0.true, ne_eqb _ _ w.if-bits-eq0.false)
+          (rw w.bytes-is at c.bytes.ensures)
+    ]
 
 pub returns-else-a-eq0 : goal.returns-else-a-eq0
 unfolding decimal_of
 returns-else-a-eq0 c =
-    let e = c.argument_of-a.ensures in
-    let f = c.float_of.ensures in
-    rw (← f, ← e, ne_eqb _ _ c.if-a-eq0.false) c.put_value.ensures
+    rw (← c.float_of.ensures, ← c.argument_of-a.ensures, ne_eqb _ _ c.if-a-eq0.false) c.put_value.ensures

@@ -1,27 +1,24 @@
--- Each turn puts a digit, and what the definition makes of the rest follows.
+-- Each turn writes a digit, and what the definition makes of the rest follows.
 use Rattle.std.proofs.Common.{[], refl, arith}
 use Rattle.text.proofs.Puts.{nothing}
 use Rattle.root_sheet.proofs.Places.{no_more, spent, ended, next}
 use Rattle.root_sheet.proofs.numeral.put_places.Goals as goal
 
-pub loop-done-init : goal.loop-done-init
-loop-done-init c = record {
+pub loop-init : goal.loop-init
+loop-init c = record {
   few = omega arith;
-  short = omega arith;
-  small = c.requires.1;
+  small = c.requires;
   text = [];
-  put = nothing _ _;
+  put = nothing (omega arith);
   rest = refl;
 }
 
-pub loop-done-preserved : goal.loop-done-preserved
-loop-done-preserved c =
-    next _ _ _ _ _ _ _ c.loop-done.invariant c.if-f-eq0.false c.loop-done-test.true _ _ c.put_decimal-to.ensures.0
-    c.put_decimal-to.ensures.1
+pub loop-preserved : goal.loop-preserved
+loop-preserved c =
+    next c.loop.invariant c.if-rest-eq0.false (omega arith) c.decimal.ensures.written
 
-pub returns-then-f-eq0 : goal.returns-then-f-eq0
-returns-then-f-eq0 c = (ended _ _ _ _ _ _ _ c.loop-done.invariant (no_more _ _ c.if-f-eq0.true), omega arith)
+pub returns-then-rest-eq0 : goal.returns-then-rest-eq0
+returns-then-rest-eq0 c = ended c.loop.invariant (no_more _ _ c.if-rest-eq0.true)
 
 pub returns : goal.returns
-returns c =
-    (ended _ _ _ _ _ _ _ c.loop-done.invariant (spent c.loop-done.done c.loop-done.f c.loop-done-test.false), omega arith)
+returns c = ended c.loop.invariant (spent _ _ (omega arith))

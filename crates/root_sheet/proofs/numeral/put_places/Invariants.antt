@@ -1,10 +1,6 @@
--- So many digits are put, and the rest is to come.
-use Rattle.std.proofs.Common.{◌-◌}
+-- So many digits are written, and the rest is to come.
 use Rattle.root_sheet.proofs.Places.{Stands}
 use Rattle.root_sheet.proofs.numeral.put_places.Given as goal
 
-abbrev pub invariant-loop-done : goal.invariant-loop-done
-invariant-loop-done l = Stands l.initial.out l.at l.fraction l.out l.to l.f l.done
-
-abbrev pub decreases-loop-done : goal.decreases-loop-done
-decreases-loop-done l = 60 - l.done
+abbrev pub invariant-loop : goal.invariant-loop
+invariant-loop l = Stands l.initial.page l.fraction l.page l.rest l.counter

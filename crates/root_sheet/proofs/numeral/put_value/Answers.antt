@@ -3,7 +3,6 @@ use mathlib.Core.Path.{◌≡◌, sym, ap, ◌∙◌}
 use mathlib.Core.Bool.{Bool, true}
 use Prim.Native.Nat.{ℕ, ◌-◌, ◌*◌, ◌^◌, ◌≤◌}
 use native.Mathlib.Omega.{arith}
-use borrow.Author.Rules.{rules}
 use Rattle.text.proofs.Puts.{and_then, as_text}
 use Rattle.root_sheet.specs.RootSheet.{numeral, is_plain}
 use Rattle.root_sheet.proofs.Numerals.{plain_range, value_plain, value_scaled, raised}
@@ -16,7 +15,7 @@ range e t is so = plain_range e (sym is ∙ so)
 pub put_binary-requires : goal.put_binary-requires
 put_binary-requires c =
     let r = range c.args.a.exponent _ c.is_plain.ensures c.if-is_plain.true in
-    (c.requires.0, c.requires.1, omega arith)
+    (c.requires, omega arith)
 
 pub overflow_shl-a : goal.overflow_shl-a
 overflow_shl-a c = let r = range c.args.a.exponent _ c.is_plain.ensures c.if-is_plain.true in omega arith
@@ -27,19 +26,17 @@ returns-then-a-lt173 c =
     let r = range c.args.a.exponent _ c.is_plain.ensures c.if-is_plain.true in
     let j : 60 - (173 - a.exponent) ≡ a.exponent - 113 = omega (arith, c.if-a-lt173.true) in
     let e = ap (λ (j : ℕ). numeral (a.digits * 2 ^ j)) j ∙ value_plain a (sym c.is_plain.ensures ∙ c.if-is_plain.true) in
-    (as_text e c.put_binary.ensures.0, search rules)
+    as_text e c.put_binary.ensures
 
 pub returns-else-a-lt173 : goal.returns-else-a-lt173
 returns-else-a-lt173 c =
     let a = c.args.a in
-    let w = raised a.digits a.exponent c.requires.1 c.if-a-lt173.false (range c.args.a.exponent _ c.is_plain.ensures c.if-is_plain.true).1 in
+    let r = range a.exponent _ c.is_plain.ensures c.if-is_plain.true in
+    let w = raised a.digits a.exponent c.requires c.if-a-lt173.false r.1 in
     let e = ap numeral w ∙ value_plain a (sym c.is_plain.ensures ∙ c.if-is_plain.true) in
-    (as_text e c.put_numeral.ensures.0, search rules)
+    as_text e c.put_numeral.ensures
 
 pub returns-else-is_plain : goal.returns-else-is_plain
-returns-else-is_plain c = (
-  as_text (value_scaled c.args.a (sym c.is_plain.ensures ∙ c.if-is_plain.false))
-      (and_then (and_then c.put_binary-b.ensures.0 c.put_bytes-c.ensures)
-      c.put_difference.ensures.0),
-  search rules,
-)
+returns-else-is_plain c =
+    as_text (value_scaled c.args.a (sym c.is_plain.ensures ∙ c.if-is_plain.false))
+    (and_then (and_then c.put_binary-else-is_plain.ensures c.bytes.ensures) c.put_difference.ensures)

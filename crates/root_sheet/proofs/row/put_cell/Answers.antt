@@ -1,7 +1,6 @@
 -- Text after text.
-use borrow.Author.Rules.{rules}
 use Rattle.text.proofs.Puts.{and_then}
 use Rattle.root_sheet.proofs.row.put_cell.Goals as goal
 
 pub returns : goal.returns
-returns c = (search (and_then), search rules)
+returns c = search (and_then)

@@ -1,8 +1,5 @@
 -- Text after text.
-use mathlib.Core.Path.{◌≡◌}
-use Prim.Native.Nat.{ℕ, ◌*◌, ◌%◌, ◌^◌, ◌<◌}
-use native.Mathlib.Omega.{arith}
-use borrow.Author.Rules.{rules}
+use Rattle.std.proofs.Common.{◌≡◌, ℕ, ◌*◌, ◌%◌, ◌^◌, ◌<◌, arith}
 use Rattle.text.proofs.Puts.{and_then}
 use Rattle.root_sheet.specs.RootSheet.{row}
 use Rattle.root_sheet.proofs.row.put_row.Goals as goal
@@ -14,8 +11,5 @@ doubled left h = omega arith
 pub returns : goal.returns
 unfolding row
 returns c =
-    let first = rw (doubled c.args.s.left c.requires.3) at c.put_tried-a.ensures.0 in (
-      and_then (and_then (and_then first c.put_cell-b.ensures.0) c.put_hex-c.ensures.0)
-          c.put_bytes.ensures,
-      search rules,
-    )
+    let first = rw (doubled c.args.s.left c.requires.2) at c.put_tried.ensures in
+    and_then (and_then (and_then first c.put_cell.ensures) c.hex.ensures.written) c.bytes.ensures

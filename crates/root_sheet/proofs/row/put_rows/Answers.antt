@@ -1,11 +1,10 @@
 -- Line after line.
 use Prim.Native.Nat.{ℕ, ◌+◌, ◌-◌, ◌*◌, ◌%◌, ◌^◌}
-use native.Mathlib.Nat.{le_antisymm, one-mul}
+use native.Mathlib.Nat.{one-mul}
 use native.Mathlib.Numerals.{add-one}
 use native.Mathlib.Omega.{arith}
 use mathlib.Core.Path.{◌≡◌, ap, ◌∙◌}
 use mathlib.Core.List.{◌++◌}
-use borrow.Author.Rules.{rules}
 use lib.Ieee.{Float}
 use lib.Pow.{pow_mono, shl_exact}
 use Rattle.number.specs.ByHand.{sheet_after}
@@ -22,12 +21,11 @@ one_more x i = rw add-one
 
 pub loop-i-init : goal.loop-i-init
 unfolding rows
-loop-i-init c = record { few = search rules; short = search rules; put = nothing _ _ }
+loop-i-init c = nothing (omega arith)
 
-pub put_row-to-requires : goal.put_row-to-requires
-put_row-to-requires c =
+pub put_row-requires : goal.put_row-requires
+put_row-requires c =
     let m = pow_mono {i = 24 - c.loop-i.i} {j = 24} (omega arith) in (
-      search rules,
       rw (place_is c.loop-i.i) m,
       c.sheet_after.ensures.room.0,
       c.sheet_after.ensures.room.1,
@@ -36,14 +34,10 @@ put_row-to-requires c =
 pub loop-i-preserved : goal.loop-i-preserved
 loop-i-preserved c =
     let line =
-    rw (place_is c.loop-i.i, c.sheet_after.ensures.sheet, c.sheet_after-in-loop-i.ensures.sheet) at c.put_row-to.ensures.0 in
-    record {
-      few = search rules;
-      short = search rules;
-      put = as_text (one_more _ _) (and_then c.loop-i.invariant.put line);
-    }
+    rw (place_is c.loop-i.i, c.sheet_after.ensures.sheet, c.sheet_after-in-loop-i.ensures.sheet) at c.put_row.ensures in
+    as_text (one_more _ _) (and_then c.loop-i.invariant line)
 
 pub returns : goal.returns
 returns c =
-    let end = le_antisymm c.loop-i.invariant.few c.loop-i-test.false in
-    (as_text (ap (rows _) end) c.loop-i.invariant.put, search rules)
+    let end : c.loop-i.i ≡ 24 = omega arith in
+    as_text (ap (rows _) end) c.loop-i.invariant

@@ -1,0 +1,12 @@
+-- What stands before the end is written.
+use Rattle.std.proofs.Common.{refl, arith}
+use Rattle.text.proofs.Sets.{sets_shown}
+use Rattle.text.proofs.Page.bytes.Goals as goal
+
+pub returns : goal.returns
+returns c = record {
+  same_buffer = refl;
+  fits = omega arith;
+  wrote = sets_shown _ _ _ _ _ _ _ c.min-start.ensures c.min-shown.ensures c.copy_from_slice.ensures.after (omega arith);
+  counted = omega arith;
+}
