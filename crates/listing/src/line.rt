@@ -23,7 +23,7 @@ fn put_timed(page: &mut Page, kind: &[u8], t: f32, safe: SafeTime)
     put_spaced(page, safe.halvings);
 }
 
-// How a pair ends: a time of its kind, or a refusal.
+// How a pair ends: a time of its kind, or a refusal. Document 01 fixes `ccd3::Answer`, whose refusal is a number.
 #[tactic(auto, unfolding(crate::specs::Listing::ending, crate::specs::Listing::timed))]
 fn put_ending(page: &mut Page, safe: SafeTime)
     ensures { Written page.old (Def.ending safe.answer safe) page.new }

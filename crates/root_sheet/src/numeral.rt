@@ -18,6 +18,7 @@ fn put_places(page: &mut Page, fraction: u64)
             return;
         }
         let ten = rest * 10;
+        // Below 10, so that `u32::try_from` could not fail: the cast is the plainer form.
         page.decimal((ten >> 60) as u32);
         rest = ten % 0x1000_0000_0000_0000;
     }
@@ -58,6 +59,7 @@ fn put_binary(page: &mut Page, digits: u32, places: u32)
     let wide = u64::from(digits);
     let whole = wide >> places;
     let fraction = (wide - (whole << places)) << (60 - places);
+    // Below 2 ^ 24, so that `u32::try_from` could not fail: the cast is the plainer form.
     put_numeral(page, whole as u32, fraction);
 }
 

@@ -6,8 +6,8 @@ ghost use Rattle.scene.specs.Spelled.{Taken};
 
 use crate::pairs::corners;
 use crate::places::{File, displacements_at};
-use number::refusal::Refusal;
 use crate::words::word;
+use number::refusal::Refusal;
 
 // A scene: how many points and how many pairs it has.
 #[derive(Clone, Copy)]

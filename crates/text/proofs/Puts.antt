@@ -8,7 +8,7 @@ use lib.Seq.{sets, sets-eq, length-sets}
 use Rattle.std.specs.Borrow.{MutBor}
 use Rattle.text.specs.Text.{Put, Starts, Written, most}
 use Rattle.text.specs.declared.Page.{Page}
-use Rattle.text.proofs.Sets.{sets_counted}
+use Rattle.text.proofs.Sets.{sets_on}
 
 -- one text, and then another where it ended
 pub and_then : {p q r : Page} {a b : List ℕ} → Written p a q → Written q b r → Written p (a ++ b) r
@@ -18,13 +18,13 @@ and_then {p} {q} {r} {a} {b} v w = record {
   wrote =
       w.wrote
       ∙ ap (λ (l : List ℕ). sets l q.at b) v.wrote
-      ∙ sets_counted a b p.out.now p.at q.at v.fits v.counted;
-  counted = omega (arith, length-append a b);
+      ∙ sets_on a b p.out.now p.at q.at v.fits v.moved;
+  moved = omega (arith, length-append a b);
 }
 
 -- nothing is written
 pub nothing : {p : Page} → length p.out.now ≤ most → Written p [] p
-nothing h = record { same_buffer = refl; fits = h; wrote = refl; counted = omega arith }
+nothing h = record { same_buffer = refl; fits = h; wrote = refl; moved = omega arith }
 
 -- the buffer keeps its length
 pub still_fits : {p q : Page} {a : List ℕ} → Written p a q → length q.out.now ≤ most
@@ -43,7 +43,7 @@ put {o} {p} {q} {a} {o'} {i} n w h e f = record {
       ∙ w.wrote
       ∙ ap (λ (l : List ℕ). sets l p.at a) n.nothing_written
       ∙ ap (λ (k : ℕ). sets o.now k a) n.at_place;
-  moved = omega (arith, w.counted, n.at_place);
+  moved = omega (arith, w.moved, n.at_place);
 }
 
 -- the place after a text that is put at the start is as far as the text is long

@@ -27,10 +27,10 @@ sets_past [] l i h = refl
 sets_past (x ∷ a) l i h =
     sets_past a (set l i x) (suc i) (omega (arith, length-set l i x)) ∙ set_out l i x h
 
--- a text that goes on where the count of another one stops
-pub sets_counted : (a b l : List ℕ) (i j : ℕ) → length l ≤ most → j ≡ i + min (length a) (most - i)
+-- a text that goes on where the place stops behind another one
+pub sets_on : (a b l : List ℕ) (i j : ℕ) → length l ≤ most → j ≡ i + min (length a) (most - i)
     → sets (sets l i a) j b ≡ sets l i (a ++ b)
-sets_counted a b l i j h e = pick (ltb (most - i) (length a)) refl
+sets_on a b l i j h e = pick (ltb (most - i) (length a)) refl
   where
     pick : (t : Bool) → ltb (most - i) (length a) ≡ t → sets (sets l i a) j b ≡ sets l i (a ++ b)
     pick true f =

@@ -34,7 +34,7 @@ pub record Put (before : List ℕ) (at : ℕ) (text : List ℕ) (after : List �
   pub wrote : after ≡ sets before at text
   pub moved : next ≡ at + length text
 
--- the greatest count of bytes
+-- the greatest place
 abbrev pub most : ℕ
 most = 2 ^ 64 - 1
 
@@ -44,10 +44,10 @@ pub record Starts (buffer : MutBor (List ℕ)) (at : ℕ) (page : Page) : Type 0
   pub nothing_written : page.out.now ≡ buffer.now
   pub at_place : page.at ≡ at
 
--- A text was written on a page after what was there. What lies past the end of the buffer is not written, and is
--- counted; the count stops at the greatest one.
+-- A text was written on a page, from its place on, into the same buffer, which ends before the greatest place. What
+-- lies past the end of the buffer is not written; the place goes on behind the text, at most to the greatest one.
 pub record Written (before : Page) (text : List ℕ) (after : Page) : Type 0 where
   pub same_buffer : after.out.ghost_name ≡ before.out.ghost_name
   pub fits : length before.out.now ≤ most
   pub wrote : after.out.now ≡ sets before.out.now before.at text
-  pub counted : after.at ≡ before.at + min (length text) (most - before.at)
+  pub moved : after.at ≡ before.at + min (length text) (most - before.at)

@@ -28,6 +28,7 @@ impl<'a> Page<'a> {
         self.at
     }
 
+    // A text, behind what was written before.
     pub fn bytes(&mut self, text: &[u8])
         ensures { Written self.old text.now self.new }
     {

@@ -10,5 +10,5 @@ returns c =
       same_buffer = refl;
       fits = omega arith;
       wrote = sets_shown _ _ _ _ _ _ _ c.min-start.ensures c.min-shown.ensures copied (omega arith);
-      counted = omega arith;
+      moved = omega arith;
     }
