@@ -1,4 +1,4 @@
--- What inner functions promise each other. Definitions only.
+-- What the inner functions of `admission` promise each other; no public statement cites it. Definitions only.
 use Rattle.std.specs.Prelude.{◌≡◌, Bool, Float}
 
 -- each call of a test at a number answers what `test` says of it
