@@ -155,10 +155,12 @@ module _ (x dx : List (List Float)) where
       found : Result Roots Refusal
       found = cubic_roots_in_range (motion_cubic x dx) one32 zero32
 
-      only : refusal_of (Answer.admitted n found (Made.refused n)) ≡ 1 → T (not (finite_points x && finite_points dx))
+      Not-finite : Type 0
+      Not-finite = T (not (finite_points x && finite_points dx))
+
+      only : refusal_of (Answer.admitted n found (Made.refused n)) ≡ 1 → Not-finite
       only =
-          admitted_keeps (λ (a : Result Roots Refusal). refusal_of a ≡ 1 → T (not (finite_points x && finite_points dx)))
-          n found (Made.refused n)
+          admitted_keeps (λ (a : Result Roots Refusal). refusal_of a ≡ 1 → Not-finite) n found (Made.refused n)
           (λ z e. absurd (finite_not_one (motion_cubic x dx) one32 zero32 (coefficients_finite z) e))
           (verdict_one (finite_points x && finite_points dx) (bounded_points x && bounded_points dx))
 

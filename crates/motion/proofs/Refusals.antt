@@ -1,5 +1,6 @@
 -- The roots of a cubic, once its numbers are admitted, are refused by 6, 7 or 8, or not at all. Assumes nothing.
-use Rattle.std.proofs.Common.{ℕ, zero, suc, Bool, true, false, cond, ◌&&◌, ◌||◌, Float, Option, None, Some, Result, Ok, Err}
+use Rattle.std.proofs.Common.{ℕ, zero, suc, Bool, true, false, cond, ◌&&◌, ◌||◌, Float}
+use Rattle.std.proofs.Common.{Option, None, Some, Result, Ok, Err}
 use Rattle.std.specs.Float.Ieee.{lt, le, eq}
 use Rattle.number.specs.Number.{◌⊖◌, ◌⊗◌, ◌⊘◌, zero32, size, smaller, larger, clamp, between, numbered}
 use Rattle.number.specs.declared.refusal.Refusal.{Refusal}

@@ -16,7 +16,7 @@ pub(crate) struct Factors {
 }
 
 impl Factors {
-    // f > 8 is taken apart into factors of 8 and a last one.
+    // f > 8 is taken apart into factors of 8 and a last one. What is left ends the loop; its turns are what is counted.
     pub(crate) fn of(f: f32) -> Factors
         requires { is_finite f ≡ true }
         ensures { result ≡ Def.factors_of f }

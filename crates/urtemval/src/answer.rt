@@ -1,5 +1,6 @@
-// What the exported functions answer: an answer of the library becomes a record of numbers, in which the refusal's
-// number comes first (0: not refused) and what a refusal does not have is zero.
+// What the exported functions answer. C has no Result and no enum that holds values, so that an answer of the library
+// becomes a record of numbers, in which the refusal's number comes first (0: not refused) and what a refusal does not
+// have is zero.
 ghost use Rattle.std.specs.Prelude.{◌≡◌};
 ghost use Rattle.urtemval.specs.Face as Def;
 

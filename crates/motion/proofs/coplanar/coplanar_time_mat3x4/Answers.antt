@@ -14,7 +14,12 @@ returns-in_err-admit_motion c =
     let e : c.from_residual.result ≡ coplanar_times c.args.x0 c.args.dx =
     refused ∙ stays_out _ (tt {0}) _ _ (sym c.in_err-admit_motion.ensures)
     in
-    record { answer = e; tidy = rw refused tt; range = rw refused tt; first = rw e (coplanar_first c.args.x0 c.args.dx) }
+    record {
+      answer = e;
+      tidy = rw refused tt;
+      range = rw refused tt;
+      first = rw e (coplanar_first c.args.x0 c.args.dx);
+    }
 
 pub returns : goal.returns
 unfolding coplanar_times

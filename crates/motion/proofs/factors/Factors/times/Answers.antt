@@ -19,5 +19,6 @@ unfolding eightfold scaled_by
 returns c =
     let l = c.loop in
     let by = c.args.self in
-    let all = capped_spent eightfold by.eights _ l.counter l.y l.invariant (λ (h : l.counter < by.eights). omega arith) in
+    let full : l.counter < by.eights → ⊥ = λ h. omega arith in
+    let all = capped_spent eightfold by.eights _ l.counter l.y l.invariant full in
     c.scaled.ensures ∙ ap (λ (z : List (List Float)). scaled z by.last) all
