@@ -9,10 +9,11 @@ use mathlib.Core.Bool.{Bool, true, false, not, cond}
 use lib.Dec.{T, eqb}
 use lib.Ieee.{Float}
 use lib.Ieee.Bits.{is_true}
+use borrow.Author.Rules.{rules}
 use borrow.Author.Tests.{eq-eqb, ne_eqb, eqb-true}
-use Rattle.number.specs.Number.{zero32, refusal, refusal_of, value_of, admitted, answered}
-use Rattle.number.specs.declared.answer.Answered.{Answered}
-use Rattle.number.specs.declared.answer.Answered.TheVariants.{Value, Refused}
+use Rattle.std.specs.Prelude.{Result, Ok, Err}
+use Rattle.number.specs.Number.{zero32, refusal, number_of, numbered, refusal_of, value_of, admitted, answered}
+use Rattle.number.specs.declared.refusal.Refusal.{Refusal}
 
 -- ---- the three numbers of a verdict
 pub refusal_none : (finite ranged : Bool) → refusal finite ranged ≡ 0 → T finite × T ranged
@@ -56,41 +57,81 @@ admitted_keeps P n given other f g = go (eqb n 0) (eqb-true n 0)
     go true h = f (h refl)
     go false h = g
 
--- the same of the answer
-module _ (n m : ℕ) (v : Float) (e : m ≡ n) where
-  pub answered_value : m ≡ 0 → Value v ≡ answered n v
-  unfolding answered
-  answered_value z = taken (Value v) (Refused n) n m e z
+-- ---- the numbers of the refusals
+-- a number that is 0, or names a refusal
+abbrev pub Told : ℕ → Type 0
+Told n = (n ≡ 0 → ⊥) → number_of (numbered n) ≡ n
 
-  pub answered_refused : (m ≡ 0 → ⊥) → Refused m ≡ answered n v
-  unfolding answered
-  answered_refused z = ap Refused e ∙ refused (Value v) (Refused n) n m e z
+pub refusal_told : (finite ranged : Bool) → Told (refusal finite ranged)
+unfolding number_of numbered
+refusal_told true true h = absurd (h refl)
+refusal_told true false h = refl
+refusal_told false ranged h = refl
 
--- an answer's number is the number that it was made with, and its value the value where that is 0
-module _ (n : ℕ) (v : Float) where
-  pub refusal_is : refusal_of (answered n v) ≡ n
+-- each refusal is the one that its number names, and none has the number 0
+pub numbered_number : (r : Refusal) → numbered (number_of r) ≡ r
+unfolding number_of numbered
+numbered_number r = search rules
+
+pub number_some : (r : Refusal) → number_of r ≡ 0 → ⊥
+unfolding number_of
+number_some r e = search rules
+
+-- ---- what is answered
+module _ {A : Type 0} (n : ℕ) (v : A) where
+  pub answered_value : n ≡ 0 → Ok v ≡ answered n v
+  unfolding answered
+  answered_value z = taken (Ok v) (Err (numbered n)) n n refl z
+
+  pub answered_refused : (n ≡ 0 → ⊥) → Err (numbered n) ≡ answered n v
+  unfolding answered
+  answered_refused z = refused (Ok v) (Err (numbered n)) n n refl z
+
+  -- an answer's number is the number that it was made with
+  pub refusal_is : Told n → refusal_of (answered n v) ≡ n
   unfolding refusal_of answered
-  refusal_is = go (eqb n 0) refl
+  refusal_is told = go (eqb n 0) refl
     where
-      go : (b : Bool) → eqb n 0 ≡ b → refusal_of (cond b (Value v) (Refused n)) ≡ n
+      go : (b : Bool) → eqb n 0 ≡ b → refusal_of (cond b (Ok v) (Err (numbered n))) ≡ n
       go true h = sym (eqb-true n 0 h)
-      go false h = refl
+      go false h = told (λ z. cc (eq-eqb n 0 z))
 
+  -- what an answer that is no refusal was made with
+  pub given : (w : A) → answered n v ≡ Ok w → (n ≡ 0) × (v ≡ w)
+  unfolding answered
+  given w = go (eqb n 0) (eqb-true n 0)
+    where
+      go : (b : Bool) → (b ≡ true → n ≡ 0) → cond b (Ok v) (Err (numbered n)) ≡ Ok w → (n ≡ 0) × (v ≡ w)
+      go true h e = (h refl, cc)
+      go false h e = absurd (cc)
+
+  -- and what a refusal was made with
+  pub refused_by : (r : Refusal) → answered n v ≡ Err r → (n ≡ 0 → ⊥) × (numbered n ≡ r)
+  unfolding answered
+  refused_by r = go (eqb n 0) refl
+    where
+      go : (b : Bool) → eqb n 0 ≡ b → cond b (Ok v) (Err (numbered n)) ≡ Err r → (n ≡ 0 → ⊥) × (numbered n ≡ r)
+      go true h e = absurd (cc)
+      go false h e = (λ z. cc (eq-eqb n 0 z), cc)
+
+-- of a number: its value is the value where that is 0
+module _ (n : ℕ) (v : Float) where
   pub value_is : value_of (answered n v) ≡ admitted n v zero32
   unfolding value_of answered
   value_is = go (eqb n 0)
     where
-      go : (b : Bool) → value_of (cond b (Value v) (Refused n)) ≡ cond b v zero32
+      go : (b : Bool) → value_of (cond b (Ok v) (Err (numbered n))) ≡ cond b v zero32
       go true = refl
       go false = refl
 
   -- the clauses of a call that answers so
-  pub clauses : (r : Answered) → r ≡ answered n v
+  pub clauses : (r : Result Float Refusal) → Told n → r ≡ answered n v
       → (r ≡ answered n v) × ((refusal_of r ≡ n) × (value_of r ≡ admitted n v zero32))
-  clauses r e = (e, (ap refusal_of e ∙ refusal_is, ap value_of e ∙ value_is))
+  clauses r told e = (e, (ap refusal_of e ∙ refusal_is n v told, ap value_of e ∙ value_is))
 
   -- what an answer that is no refusal was made with
-  pub given_value : (r : Answered) → r ≡ answered n v → refusal_of r ≡ 0 → (n ≡ 0) × (value_of r ≡ v)
-  given_value r e z =
-      let none : n ≡ 0 = sym (ap refusal_of e ∙ refusal_is) ∙ z in
+  pub given_value : (r : Result Float Refusal) → Told n → r ≡ answered n v → refusal_of r ≡ 0
+      → (n ≡ 0) × (value_of r ≡ v)
+  given_value r told e z =
+      let none : n ≡ 0 = sym (ap refusal_of e ∙ refusal_is n v told) ∙ z in
       (none, ap value_of e ∙ value_is ∙ sym (taken v zero32 n n refl none))

@@ -1,10 +1,13 @@
 -- Single-precision numbers (docs/01-scope.md, opening, "Number helpers", "The numbers allowed", "Refusal numbers",
 -- "Square root and norm", "The walk"). Each operation is rounded once, to nearest even. Definitions only.
-use Rattle.std.specs.Prelude.{ℕ, zero, suc, ◌-◌, ◌+◌, ◌*◌, ◌/◌, ◌%◌, ◌^◌, Bool, true, false, cond, ◌&&◌, ◌||◌, eqb, ltb, Float}
+use Rattle.std.specs.Prelude.{Result, Ok, Err, ℕ, zero, suc, ◌-◌, ◌+◌, ◌*◌, ◌/◌, ◌%◌, ◌^◌, Bool, true, false, cond, ◌&&◌, ◌||◌, eqb, ltb, Float}
 use Rattle.std.specs.Bool.{beq}
 use Rattle.std.specs.Float.{nan, inf, fin, binary32}
 use Rattle.std.specs.Float.Ieee.{add, sub, mul, div, lt, le, eq, neg, to_bits, of_bits, up, down}
-use Rattle.number.specs.declared.answer.Answered.{Answered, TheVariants.Value, TheVariants.Refused}
+use Rattle.number.specs.declared.refusal.Refusal.{Refusal}
+use Rattle.number.specs.declared.refusal.Refusal.TheVariants.{NotFinite, BeyondRange, NoFactor, ScaledNotFinite}
+use Rattle.number.specs.declared.refusal.Refusal.TheVariants.{ZeroAtBothEnds, GuessOutside, NoSlope, NotQuadratic}
+use Rattle.number.specs.declared.refusal.Refusal.TheVariants.{NoScene, BadPair}
 
 infixl 65 ◌⊕◌ ◌⊖◌
 infixl 70 ◌⊗◌ ◌⊘◌
@@ -118,18 +121,43 @@ refusal finite ranged = cond finite (cond ranged 0 2) 1
 abbrev pub admitted {ℓ} : {A : Type ℓ} → ℕ → A → A → A
 admitted n given other = cond (eqb n 0) given other
 
--- of an answer that is one number or a refusal: the refusal number, 0 for none; the value, plus zero where refused
-unfoldable pub refusal_of : Answered → ℕ
-refusal_of (Value v) = 0
-refusal_of (Refused n) = n
+-- the number of a refusal, and the refusal that has a number; 11 stands for any number that none has
+unfoldable pub number_of : Refusal → ℕ
+number_of NotFinite = 1
+number_of BeyondRange = 2
+number_of NoFactor = 4
+number_of ScaledNotFinite = 5
+number_of ZeroAtBothEnds = 6
+number_of GuessOutside = 7
+number_of NoSlope = 8
+number_of NotQuadratic = 9
+number_of NoScene = 10
+number_of BadPair = 11
 
-unfoldable pub value_of : Answered → Float
-value_of (Value v) = v
-value_of (Refused n) = zero32
+unfoldable pub numbered : ℕ → Refusal
+numbered n =
+    cond (eqb n 1) NotFinite
+    (cond (eqb n 2) BeyondRange
+    (cond (eqb n 4) NoFactor
+    (cond (eqb n 5) ScaledNotFinite
+    (cond (eqb n 6) ZeroAtBothEnds
+    (cond (eqb n 7) GuessOutside
+    (cond (eqb n 8) NoSlope
+    (cond (eqb n 9) NotQuadratic
+    (cond (eqb n 10) NoScene BadPair))))))))
+
+-- of an answer: the refusal's number, 0 for none; of one that is a number: the value, plus zero where refused
+unfoldable pub refusal_of : {A : Type 0} → Result A Refusal → ℕ
+refusal_of (Ok v) = 0
+refusal_of (Err r) = number_of r
+
+unfoldable pub value_of : Result Float Refusal → Float
+value_of (Ok v) = v
+value_of (Err r) = zero32
 
 -- by a refusal number: the value, or the refusal
-unfoldable pub answered : ℕ → Float → Answered
-answered n v = admitted n (Value v) (Refused n)
+unfoldable pub answered : {A : Type 0} → ℕ → A → Result A Refusal
+answered n v = admitted n (Ok v) (Err (numbered n))
 
 -- ---- whole numbers: a finite number is a sign and a number of units, the smallest f32 above zero, 2 ^ -149
 unfoldable pub units_of : Float → ℕ

@@ -19,7 +19,8 @@ pub struct Sheet {
     pub left: u32,
 }
 
-// The digits and the exponent of a positive finite x; no digits for any other x.
+// The digits and the exponent of a positive finite x; no digits for any other x. (Not an `Option`: the sheet of any x goes
+// on from the number 0, as in `ByHand.sheet_after`.)
 pub fn argument_of(x: f32) -> Argument
     ensures { result ≡ Def.argument_of x }
 {
@@ -87,11 +88,9 @@ pub(crate) fn worked(n: u32, turns: u32) -> Sheet
 {
     let mut s = Sheet { twice: 0, left: n };
     let mut place: u32 = 0x200_0000;
-    let mut done: u32 = 0;
-    while done < turns {
+    for _ in 0..turns {
         place = place >> 1;
         s = digit(s, place);
-        done += 1;
     }
     s
 }

@@ -4,9 +4,9 @@
 
 #![tactic(auto)]
 
-pub mod answer;
 pub mod by_hand;
 pub mod order;
 pub mod pattern;
 pub mod range;
+pub mod refusal;
 pub mod root;

@@ -1,5 +1,7 @@
 // Absolute value, smaller, larger, clamp, a zero as it is written, and the next f32 down (docs/01-scope.md, "Number
 // helpers").
+#![tactic(auto, unfolding(crate::specs::Number::size, crate::specs::Number::smaller, crate::specs::Number::larger, crate::specs::Number::clamp, crate::specs::Number::written, crate::specs::Number::next_down))]
+
 ghost use Rattle.std.specs.Prelude.{◌≡◌};
 ghost use Rattle.number.specs.Number as Def;
 

@@ -4,8 +4,8 @@ ghost use Rattle.number.specs.Number.{refusal_of, value_of, answered};
 ghost use Rattle.number.specs.Number as Def;
 ghost use Rattle.number.specs.Inner.{RootBits};
 
-use crate::answer::Answered;
 use crate::by_hand::Argument;
+use crate::refusal::Refusal;
 use crate::{by_hand, range};
 
 // The pattern of the f32 nearest to the root of digits * 2 ^ (exponent - 173): 24 digits, and one that rounds.
@@ -30,18 +30,19 @@ pub fn root(x: f32) -> f32
 }
 
 // The square root with its refusals: 1 for NaN or an infinity, 2 below zero.
-pub fn square_root(x: f32) -> Answered
+#[tactic(auto, unfolding(crate::specs::Number::answered, crate::specs::Number::numbered, crate::specs::Number::number_of, crate::specs::Number::refusal_of, crate::specs::Number::value_of, crate::specs::Number::root_refusal))]
+pub fn square_root(x: f32) -> Result<f32, Refusal>
     ensures answer { result ≡ answered (Def.root_refusal x) (Def.root_of x) }
     ensures refusal { refusal_of result ≡ Def.root_refusal x }
     ensures value { value_of result ≡ Def.root_of x }
 {
     if range::is_finite(x) {
         if x < 0.0 {
-            Answered::Refused(2)
+            Err(Refusal::BeyondRange)
         } else {
-            Answered::Value(root(x))
+            Ok(root(x))
         }
     } else {
-        Answered::Refused(1)
+        Err(Refusal::NotFinite)
     }
 }
