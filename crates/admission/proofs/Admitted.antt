@@ -11,7 +11,7 @@ use lib.Dec.{T, eqb, leb, eqb→eq, leb→le, le→leb, lit<}
 use lib.Ieee.{Float}
 use lib.Ieee.Fits.{and_i, and_l, and_r}
 use Rattle.number.specs.Number.{is_finite, in_bound, zero_to_bound, zero_to_one, speed_range, refusal}
-use Rattle.number.proofs.Answers.{refusal_none, refusal_first, refusal_second, ranged_none, ranged_beyond}
+use Rattle.number.proofs.Answers.{refusal_none, refusal_first, refusal_second, Told, refusal_told}
 use Rattle.number.proofs.Comparing.{all_three, all_four}
 use Rattle.number.proofs.Within.{Within}
 use Rattle.number.proofs.Finite.{within_real, bound_real}
@@ -19,7 +19,9 @@ use Rattle.number.proofs.Ranges.{in_bound_lem, zero_to_bound_lem, zero_to_one_le
 use Rattle.geometry.proofs.Bounds.{Each}
 use Rattle.geometry.specs.Geometry.{at, col}
 use Rattle.admission.specs.declared.Limits.{Limits}
-use Rattle.admission.specs.Admission.{of_three, of_twelve, finite_points, bounded_points, is_split, finite_limits}
+use Rattle.admission.specs.Inner.{Follows}
+use Rattle.admission.specs.Admission.{of_three, of_twelve, finite_points, bounded_points, is_split}
+use Rattle.admission.specs.Admission.{finite_limits}
 use Rattle.admission.specs.Admission.{ranged_limits, full_allowance, is_allowance, walk_refusal, points_refusal}
 use Rattle.admission.specs.Admission.{split_refusal, factor_refusal, motion_refusal, time_refusal, ratio_refusal}
 
@@ -30,6 +32,11 @@ module _ (test : Float → Bool) where
   three_each v h (suc zero) l = (all_three (test (at v 0)) (test (at v 1)) (test (at v 2)) h).1
   three_each v h (suc (suc zero)) l = (all_three (test (at v 0)) (test (at v 1)) (test (at v 2)) h).2
   three_each v h (suc (suc (suc j))) l = absurd (omega arith)
+
+  -- what the calls of a test say of a point's three numbers
+  pub three_calls : (v : List Float) (r : Bool)
+      → ((t : Float → Bool) → Follows (λ x b. b ≡ test x) t → r ≡ of_three t v) → r ≡ of_three test v
+  three_calls v r h = h test (λ x b e. e)
 
   pub twelve_each : (x : List (List Float)) → T (of_twelve test x) → Each test x
   twelve_each x h = go
@@ -76,28 +83,61 @@ unfolding bounded_points finite_points
 points_real x h =
     twelve_all is_finite x (λ i j k l. bound_real (at (col x i) j) (twelve_each in_bound x h i j k l))
 
+pub three_real : (v : List Float) → T (of_three in_bound v) → T (of_three is_finite v)
+three_real v h = three_all is_finite v (λ j l. bound_real (at v j) (three_each in_bound v h j l))
+
+-- where a says b and c says d, both say both
+both : (a b c d : Bool) → (T a → T b) → (T c → T d) → T (a && c) → T (b && d)
+both a b c d f g h = and_i b d (f (and_l a c h)) (g (and_r a c h))
+
 pub pair_real : (x dx : List (List Float)) → T (bounded_points x && bounded_points dx)
     → T (finite_points x && finite_points dx)
-pair_real x dx h =
-    and_i (finite_points x) (finite_points dx) (points_real x (and_l (bounded_points x) (bounded_points dx) h))
-    (points_real dx (and_r (bounded_points x) (bounded_points dx) h))
+pair_real x dx =
+    both (bounded_points x) (finite_points x) (bounded_points dx) (finite_points dx) (points_real x) (points_real dx)
 
 pub one_real : (t : Float) → T (zero_to_one t) → T (is_finite t)
 one_real t h = within_real 0 t (zero_to_one_lem t h).2
 
-limits_real : (l : Limits) → T (ranged_limits l) → T (finite_limits l)
+pub bounded_real : (s : Float) → T (zero_to_bound s) → T (is_finite s)
+bounded_real s h = within_real 20 s (zero_to_bound_lem s h).1
+
+pub limits_real : (l : Limits) → T (ranged_limits l) → T (finite_limits l)
 unfolding ranged_limits finite_limits
-limits_real l h =
+limits_real l =
     let o = l.offset in
     let c = l.clearance in
     let t = l.max_t in
     let u = l.u_max in
-    let q = all_four (zero_to_bound o) (zero_to_bound c) (zero_to_one t) (speed_range u) h in
-    and_i (is_finite o && is_finite c && is_finite t) (is_finite u)
-    (and_i (is_finite o && is_finite c) (is_finite t)
-    (and_i (is_finite o) (is_finite c) (within_real 20 o (zero_to_bound_lem o q.0).1)
-    (within_real 20 c (zero_to_bound_lem c q.1).1)) (one_real t q.2))
-    (within_real 60 u (speed_range_lem u q.3).2)
+    both (zero_to_bound o && zero_to_bound c && zero_to_one t) (is_finite o && is_finite c && is_finite t)
+    (speed_range u) (is_finite u)
+    (both (zero_to_bound o && zero_to_bound c) (is_finite o && is_finite c) (zero_to_one t) (is_finite t)
+    (both (zero_to_bound o) (is_finite o) (zero_to_bound c) (is_finite c) (bounded_real o) (bounded_real c))
+    (one_real t))
+    (λ h. within_real 60 u (speed_range_lem u h).2)
+
+-- of each call's tests
+module _ (x : List (List Float)) where
+  pub split_real : (split : ℕ) → T (bounded_points x && is_split split) → T (finite_points x)
+  split_real split h = points_real x (and_l (bounded_points x) (is_split split) h)
+
+  pub factor_real : (s : Float) → T (bounded_points x && zero_to_bound s) → T (finite_points x && is_finite s)
+  factor_real s =
+      both (bounded_points x) (finite_points x) (zero_to_bound s) (is_finite s) (points_real x) (bounded_real s)
+
+  pub time_real : (dx : List (List Float)) (t : Float) → T (bounded_points x && bounded_points dx && zero_to_one t)
+      → T (finite_points x && finite_points dx && is_finite t)
+  time_real dx t =
+      both (bounded_points x && bounded_points dx) (finite_points x && finite_points dx) (zero_to_one t) (is_finite t)
+      (pair_real x dx) (one_real t)
+
+pub ratio_real : (p q : List Float) (s : Float) → T (of_three in_bound p && of_three in_bound q && zero_to_one s)
+    → T (of_three is_finite p && of_three is_finite q && is_finite s)
+ratio_real p q s =
+    both (of_three in_bound p && of_three in_bound q) (of_three is_finite p && of_three is_finite q) (zero_to_one s)
+    (is_finite s)
+    (both (of_three in_bound p) (of_three is_finite p) (of_three in_bound q) (of_three is_finite q) (three_real p)
+    (three_real q))
+    (one_real s)
 
 -- ---- the split
 pub split_parts : (split : ℕ) → T (is_split split) → (split ≡ 2) ⊎ (split ≡ 3)
@@ -117,6 +157,33 @@ allowance_range n h = (
 
 pub range_allowance : (n : ℕ) → 1 ≤ n → n ≤ full_allowance → T (is_allowance n)
 range_allowance n a b = and_i (leb 1 n) (leb n full_allowance) (le→leb 1 n a) (le→leb n full_allowance b)
+
+-- ---- each call's refusal number is 0, or names a refusal
+module _ (x : List (List Float)) where
+  pub walk_told : (dx : List (List Float)) (split : ℕ) (l : Limits) (allowed : ℕ)
+      → Told (walk_refusal x dx split l allowed)
+  unfolding walk_refusal
+  walk_told dx split l allowed =
+      refusal_told (finite_points x && finite_points dx && finite_limits l)
+      (bounded_points x && bounded_points dx && ranged_limits l && is_split split && is_allowance allowed)
+
+  pub points_told : Told (points_refusal x)
+  unfolding points_refusal
+  points_told = refusal_told (finite_points x) (bounded_points x)
+
+  pub split_told : (split : ℕ) → Told (split_refusal x split)
+  unfolding split_refusal
+  split_told split = refusal_told (finite_points x) (bounded_points x && is_split split)
+
+  pub factor_told : (s : Float) → Told (factor_refusal x s)
+  unfolding factor_refusal
+  factor_told s = refusal_told (finite_points x && is_finite s) (bounded_points x && zero_to_bound s)
+
+  pub time_told : (dx : List (List Float)) (t : Float) → Told (time_refusal x dx t)
+  unfolding time_refusal
+  time_told dx t =
+      refusal_told (finite_points x && finite_points dx && is_finite t)
+      (bounded_points x && bounded_points dx && zero_to_one t)
 
 -- ---- the safe time
 pub record Walkable (x dx : List (List Float)) (split : ℕ) (l : Limits) : Type 0 where
@@ -138,9 +205,9 @@ ranged_walk x dx split l = bounded_points x && bounded_points dx && ranged_limit
 module _ (x dx : List (List Float)) (split : ℕ) (l : Limits) where
   ranged_real : T (ranged_walk x dx split l) → T (finite_walk x dx l)
   ranged_real h =
-      let q = all_four (bounded_points x) (bounded_points dx) (ranged_limits l) (is_split split) h in
-      and_i (finite_points x && finite_points dx) (finite_limits l)
-      (pair_real x dx (and_i (bounded_points x) (bounded_points dx) q.0 q.1)) (limits_real l q.2)
+      both (bounded_points x && bounded_points dx) (finite_points x && finite_points dx) (ranged_limits l)
+      (finite_limits l) (pair_real x dx) (limits_real l)
+      (and_l (bounded_points x && bounded_points dx && ranged_limits l) (is_split split) h)
 
   -- with an allowance in its range a call is refused as the pair and its limits are
   pub walk_allowed : (allowed : ℕ) → T (is_allowance allowed)
@@ -182,17 +249,8 @@ module _ (x dx : List (List Float)) (split : ℕ) (l : Limits) where
           and_r (ranged_walk x dx split l) (is_allowance allowed) r,
         )
 
-    walk_real : T ranged_call → T (finite_walk x dx l)
+    pub walk_real : T ranged_call → T (finite_walk x dx l)
     walk_real h = ranged_real (and_l (ranged_walk x dx split l) (is_allowance allowed) h)
-
-    -- in its range: admitted; beyond it: the verdict on finite numbers alone
-    pub walk_none : ranged_call ≡ true → 0 ≡ walk_refusal x dx split l allowed
-    unfolding walk_refusal
-    walk_none e = ranged_none (finite_walk x dx l) ranged_call walk_real e
-
-    pub walk_beyond : ranged_call ≡ false → refusal (finite_walk x dx l) false ≡ walk_refusal x dx split l allowed
-    unfolding walk_refusal
-    walk_beyond e = ranged_beyond (finite_walk x dx l) ranged_call e
 
     pub walk_first : (walk_refusal x dx split l allowed ≡ 1) ↔ T (not (finite_walk x dx l))
     unfolding walk_refusal

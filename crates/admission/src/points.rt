@@ -1,41 +1,40 @@
 // The tests of a point's three numbers and of the twelve of four points (docs/01-scope.md, "What callers hand over, and
 // the numbers allowed").
-ghost use Rattle.std.specs.Prelude.{◌≡◌};
-ghost use Rattle.number.specs.Number.{is_finite, in_bound};
+ghost use Rattle.std.specs.Prelude.{◌≡◌, Bool, Float};
 ghost use Rattle.admission.specs.Admission as Def;
+ghost use Rattle.admission.specs.Inner.{Follows};
 
 use number::range;
 
-pub(crate) fn three_finite(v: [f32; 3]) -> bool
-    ensures { result ≡ Def.of_three is_finite v }
+// The three numbers of a point pass a test. They are tested one by one, as the definition says: an iterator's `all` is
+// no shorter, and branches after each number.
+pub(crate) fn of_three<F: Fn(f32) -> bool>(test: F, v: [f32; 3]) -> bool
+    requires { F.IsAlwaysCallable test }
+    ensures { (t : Float → Bool) → Follows (F.post test) t → result ≡ Def.of_three t v }
 {
-    range::is_finite(v[0]) & range::is_finite(v[1]) & range::is_finite(v[2])
+    let [x, y, z] = v;
+    test(x) & test(y) & test(z)
 }
 
-pub(crate) fn three_in_bound(v: [f32; 3]) -> bool
-    ensures { result ≡ Def.of_three in_bound v }
+// The twelve numbers of four points pass a test.
+pub(crate) fn of_twelve<F: Fn(f32) -> bool>(test: F, x: [[f32; 3]; 4]) -> bool
+    requires { F.IsAlwaysCallable test }
+    ensures { (t : Float → Bool) → Follows (F.post test) t → result ≡ Def.of_twelve t x }
 {
-    range::in_bound(v[0]) & range::in_bound(v[1]) & range::in_bound(v[2])
+    let [a, b, c, d] = x;
+    of_three(&test, a) & of_three(&test, b) & of_three(&test, c) & of_three(&test, d)
 }
 
 // The twelve numbers of four points are finite.
 pub fn points_finite(x: [[f32; 3]; 4]) -> bool
     ensures { result ≡ Def.finite_points x }
 {
-    let a = x[0];
-    let b = x[1];
-    let c = x[2];
-    let d = x[3];
-    three_finite(a) & three_finite(b) & three_finite(c) & three_finite(d)
+    of_twelve(range::is_finite, x)
 }
 
 // The twelve numbers of four points are 2^20 in size at most.
 pub(crate) fn points_in_bound(x: [[f32; 3]; 4]) -> bool
     ensures { result ≡ Def.bounded_points x }
 {
-    let a = x[0];
-    let b = x[1];
-    let c = x[2];
-    let d = x[3];
-    three_in_bound(a) & three_in_bound(b) & three_in_bound(c) & three_in_bound(d)
+    of_twelve(range::in_bound, x)
 }

@@ -20,7 +20,8 @@ use Rattle.number.proofs.Comparing.{not_lt_le}
 use Rattle.number.proofs.NoNan.{no_nan_le}
 use Rattle.number.proofs.Signs.{plus_up}
 use Rattle.number.proofs.Answers.{clauses, given_value}
-use Rattle.number.specs.declared.answer.Answered.{Answered}
+use Rattle.std.specs.Prelude.{Result}
+use Rattle.number.specs.declared.refusal.Refusal.{Refusal}
 use Rattle.number.proofs.Units.{Top}
 use Rattle.number.proofs.Products.{mul_is}
 use Rattle.number.proofs.Errors.{OfRoot, root_off}
@@ -30,9 +31,9 @@ use Rattle.number.proofs.SquareRoot.Argument.{not_above}
 use Rattle.number.proofs.SquareRoot.Bounds.{RootUnits, root_facts}
 use Rattle.geometry.proofs.Handed.{PointsFit}
 use Rattle.admission.specs.Admission.{bounded_points, split_refusal}
-use Rattle.admission.proofs.Admitted.{split_admits}
+use Rattle.admission.proofs.Admitted.{split_admits, split_told}
 use Rattle.pair.specs.Points.{largest_square, largest_exact, source_norm, upward, norm_of}
-use Rattle.pair.specs.Points.{gap_exact, zeros, ErrsUpward}
+use Rattle.pair.specs.Points.{gap_exact, ErrsUpward}
 use Rattle.geometry.specs.Geometry.{vec, cross_pairs}
 use Rattle.pair.proofs.NormBounds.Largest.{Held, largest_held}
 use Rattle.pair.proofs.NormBounds.Raised.{product, product_grows, product_upward, product_little}
@@ -126,6 +127,7 @@ module _ (x : List (List Float)) (split : ℕ) (h : T (bounded_points x)) (f : P
 abbrev three_four : List (List Float)
 three_four =
     let n : ℕ → Float = of_bits binary32 in
+    let zeros : List Float = vec zero32 zero32 zero32 in
     vec (n 0x4040_0000) zero32 zero32 ∷ zeros ∷ zeros ∷ vec zero32 (n 0xc080_0000) zero32 ∷ []
 
 pub exact_corner : largest_exact three_four 2 ≡ 25 * (L * L)
@@ -134,19 +136,27 @@ exact_corner = refl
 
 -- ---- the clauses of the public call
 module _ (x : List (List Float)) (split : ℕ) (f : PointsFit x) where
-  abbrev Clauses : Answered → Type 0
-  Clauses r =
-      (r ≡ answered (split_refusal x split) (norm_of x split))
-      × ((refusal_of r ≡ split_refusal x split)
-      × ((value_of r ≡ admitted (split_refusal x split) (norm_of x split) zero32)
-      × (Real (value_of r) × (refusal_of r ≡ 0 → ErrsUpward x split (value_of r)))))
+  abbrev Clauses : Result Float Refusal → Type 0
+  Clauses r = record {
+    answer : r ≡ answered (split_refusal x split) (norm_of x split);
+    refusal : refusal_of r ≡ split_refusal x split;
+    value : value_of r ≡ admitted (split_refusal x split) (norm_of x split) zero32;
+    norm : Real (value_of r);
+    upward : refusal_of r ≡ 0 → ErrsUpward x split (value_of r);
+  }
 
-  pub norm_clauses : (r : Answered) → r ≡ answered (split_refusal x split) (norm_of x split) → Clauses r
+  pub norm_clauses : (r : Result Float Refusal) → r ≡ answered (split_refusal x split) (norm_of x split) → Clauses r
   norm_clauses r e =
-      let all = clauses (split_refusal x split) (norm_of x split) r e in
-      (e, (all.1.0, (all.1.1, (subst Real (sym all.1.1) (answer_real x split), upward_answer))))
+      let all = clauses (split_refusal x split) (norm_of x split) r (split_told x split) e in
+      record {
+        answer = e;
+        refusal = all.1.0;
+        value = all.1.1;
+        norm = subst Real (sym all.1.1) (answer_real x split);
+        upward = upward_answer;
+      }
     where
       upward_answer : refusal_of r ≡ 0 → ErrsUpward x split (value_of r)
       upward_answer z =
-          let (none, is) = given_value (split_refusal x split) (norm_of x split) r e z in
+          let (none, is) = given_value (split_refusal x split) (norm_of x split) r (split_told x split) e z in
           subst (ErrsUpward x split) (sym is) (norm_upward x split (split_admits x split none).0 f)

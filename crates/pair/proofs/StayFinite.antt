@@ -1,7 +1,7 @@
 -- Every number that an admitted call on points answers or leaves is finite: a place; moved, centred, scaled points.
 -- Assumes nothing.
 use Prim.Native.Nat.{ℕ}
-use mathlib.Core.Path.{◌≡◌, refl, sym, ◌∙◌, subst}
+use mathlib.Core.Path.{◌≡◌, refl, subst}
 use mathlib.Core.List.{List}
 use lib.Dec.{T, lit≤}
 use lib.Ieee.{Float}
@@ -13,7 +13,7 @@ use Rattle.geometry.proofs.Bounds.{VecWithin, PointsWithin, lerp_within, moved_w
 use Rattle.geometry.proofs.Bounds.{centred_within}
 use Rattle.admission.specs.Admission.{of_three, of_twelve, finite_points, points_refusal, factor_refusal, time_refusal}
 use Rattle.admission.specs.Admission.{ratio_refusal}
-use Rattle.pair.specs.Points.{zeros, placed, moved_into, centred_in, scaled_in}
+use Rattle.pair.specs.Points.{moved_into, centred_in, scaled_in}
 use Rattle.number.proofs.Finite.{within_real}
 use Rattle.admission.proofs.Admitted.{three_each, three_all, twelve_all, points_within, points_admits, factor_admits}
 use Rattle.admission.proofs.Admitted.{time_admits, ratio_admits}
@@ -25,25 +25,17 @@ three a v h = three_all is_finite v (λ j l. within_real a (at v j) (h j l))
 twelve : (a : ℕ) (x : List (List Float)) → PointsWithin a x → T (of_twelve is_finite x)
 twelve a x h = twelve_all is_finite x (λ i j k l. within_real a (at (col x i) j) (h i j k l))
 
--- the clauses of a call that lends points: a refusal, points, and points that are finite where it is 0
-pub with_finite : (n m : ℕ) (x y : List (List Float)) → n ≡ m → x ≡ y → (m ≡ 0 → T (finite_points y))
-    → (n ≡ m) × ((x ≡ y) × (n ≡ 0 → T (finite_points x)))
-with_finite n m x y e h f =
-    (e, (h, λ z. subst (λ (x : List (List Float)). T (finite_points x)) (sym h) (f (sym e ∙ z))))
-
 -- what an admitted call gives has what its value has
 given : {A : Type 0} (P : A → Type 0) (n : ℕ) (a b : A) → n ≡ 0 → P a → P (admitted n a b)
 given P n a b z p = subst P (taken a b n n refl z) p
 
 -- ---- a place along a segment
-pub place_finite : (p q : List Float) (s : Float) → ratio_refusal p q s ≡ 0 → T (of_three is_finite (placed p q s).point)
-unfolding placed
+pub place_finite : (p q : List Float) (s : Float) → ratio_refusal p q s ≡ 0 → T (of_three is_finite (lerp_of p q s))
 place_finite p q s e =
     let h = ratio_admits p q s e in
-    given (λ (y : List Float). T (of_three is_finite y)) (ratio_refusal p q s) (lerp_of p q s) zeros e
-    (three 22 (lerp_of p q s)
+    three 22 (lerp_of p q s)
     (lerp_within 20 p q s (lit≤ tt) (λ j l. in_bound_lem (at p j) (three_each in_bound p h.0 j l))
-    (λ j l. in_bound_lem (at q j) (three_each in_bound q h.1 j l)) (zero_to_one_lem s h.2).2))
+    (λ j l. in_bound_lem (at q j) (three_each in_bound q h.1 j l)) (zero_to_one_lem s h.2).2)
 
 -- ---- four points
 module _ (x : List (List Float)) where

@@ -1,23 +1,20 @@
 -- The public calls on four points: what each answers and leaves, the norm and the distance of a pair (docs/01-scope.md,
 -- "What callers hand over, and the numbers allowed", "Square root and norm", "Our distance rules", "Refusal numbers";
 -- ccd3.rs: `max_relative_norm`). Definitions only.
-use Rattle.std.specs.Prelude.{ℕ, ◌+◌, ◌*◌, ◌^◌, ◌≤◌, cond, ◌≡◌, T, ltb, Float}
+use Rattle.std.specs.Prelude.{Result, ℕ, ◌+◌, ◌*◌, ◌^◌, ◌≤◌, cond, ◌≡◌, T, ltb, Float}
 use mathlib.Core.List.{List, foldl}
 use Rattle.std.specs.Float.{binary32}
 use Rattle.std.specs.Float.Ieee.{lt, le, of_bits}
-use Rattle.number.specs.Number.{◌⊗◌, zero32, larger, least_speed, admitted, units_of, apart, root_of}
-use Rattle.geometry.specs.Geometry.{at, col, vec, minus, dot, lerp_of, moved, centred, scaled, Cross, cross_pairs}
+use Rattle.number.specs.Number.{◌⊗◌, zero32, larger, least_speed, admitted, units_of, apart, root_of, answered}
+use Rattle.number.specs.declared.refusal.Refusal.{Refusal}
+use Rattle.geometry.specs.Geometry.{at, col, minus, dot, lerp_of, moved, centred, scaled, Cross, cross_pairs}
 use Rattle.admission.specs.Admission.{points_refusal, factor_refusal, time_refusal, ratio_refusal, split_refusal}
 use Rattle.distance.specs.Distance.{nearest_of}
-use Rattle.pair.specs.declared.{points.Placed.Placed, separation.Measured.Measured}
+use Rattle.distance.specs.declared.candidate.Nearest.{Nearest}
 
-abbrev pub zeros : List Float
-zeros = vec zero32 zero32 zero32
-
--- the place along a segment; a refused one carries zeros
-unfoldable pub placed : List Float → List Float → Float → Placed
-placed p q s =
-    record { refusal = ratio_refusal p q s; point = admitted (ratio_refusal p q s) (lerp_of p q s) zeros }
+-- the place along a segment, or a refusal
+unfoldable pub placed : List Float → List Float → Float → Result (List Float) Refusal
+placed p q s = answered (ratio_refusal p q s) (lerp_of p q s)
 
 -- what lent points hold afterwards: the points moved, centred, scaled, or what they held
 unfoldable pub moved_into : List (List Float) → List (List Float) → Float → List (List Float) → List (List Float)
@@ -70,14 +67,6 @@ pub record ErrsUpward (x : List (List Float)) (split : ℕ) (n : Float) : Type 0
       → units_of n * units_of n * 2 ^ 40 ≤ largest_exact x split * ((2 ^ 20 + 1) * (2 ^ 20 + 1))
   pub told : le least_speed n ≡ le least_speed (source_norm x split)
 
--- ---- the distance of the two sides: the first smallest candidate's numbers; a refused call carries zeros
-abbrev pub refused_by : ℕ → Measured
-refused_by n = record { refusal = n; squared = zero32; direction = zeros; candidate = 0 }
-
-unfoldable pub measured : List (List Float) → ℕ → Measured
-measured x split =
-    let refusal = split_refusal x split in
-    let n = nearest_of split x in
-    admitted refusal
-    (record { refusal = 0; squared = n.squared; direction = n.direction; candidate = n.candidate })
-    (refused_by refusal)
+-- ---- the distance of the two sides: the first smallest candidate, or a refusal
+unfoldable pub measured : List (List Float) → ℕ → Result Nearest Refusal
+measured x split = answered (split_refusal x split) (nearest_of split x)
