@@ -16,7 +16,7 @@ use Rattle.number.specs.Number.{zero32, next_up, written, halve}
 use Rattle.number.proofs.NextUp.{next_of}
 use Rattle.number.proofs.Signs.{plus_up, above_plus}
 use Rattle.number.proofs.Transitive.{le_le_trans}
-use Rattle.number.proofs.Units.{Unit32, zero_is, plus, same_float}
+use Rattle.number.proofs.Units.{Unit32, zero_is, same_float}
 use Rattle.number.proofs.Units.Compared.{Is, finite_is, eq_is, lt_says, says_lt, le_says, says_le}
 use Rattle.admission.specs.declared.Limits.{Limits}
 use Rattle.ccd3.specs.declared.Answer.{Answer}

@@ -72,11 +72,9 @@ fn safe_walk(
 ) -> Counted
     ensures { result ≡ Inner.counted_from 0 (Def.safe_walk x0 dx split limits allowance) }
 {
-    let refusal = admit_walk(x0, dx, split, limits, allowance);
-    if refusal == 0 {
-        admitted(x0, dx, split, limits, allowance)
-    } else {
-        still(Answer::Refused(refusal))
+    match admit_walk(x0, dx, split, limits, allowance) {
+        Ok(()) => admitted(x0, dx, split, limits, allowance),
+        Err(refusal) => still(Answer::Refused(u32::from(refusal))),
     }
 }
 

@@ -2,7 +2,7 @@
 use mathlib.Core.Path.{◌≡◌, refl, sym, ap, ◌∙◌}
 use mathlib.Core.Logic.{inl, inr}
 use mathlib.Core.Bool.{Bool, true, false}
-use Prim.Native.Nat.{ℕ, ◌+◌}
+use Prim.Native.Nat.{◌+◌}
 use native.Mathlib.Omega.{arith}
 use lib.Ieee.{Float, eq}
 use Rattle.number.specs.Number.{Halved, window}
@@ -28,7 +28,7 @@ returns-then-narrower-window c =
       | else-is_above w ↦ inr (sym c.is_above.ensures ∙ w.if-is_above.false, w.lower-is, w.upper-is)
     ]) in
     let e : record { lower = c.if-is_above.lower; upper = c.if-is_above.upper; count = l.made + 1; stopped = true }
-        ≡ closing w.x0 w.dx w.split w.threshold c.args.from c.args.to =
+    ≡ closing w.x0 w.dx w.split w.threshold c.args.from c.args.to =
     capped_ends (halve_from p) 255 _ l.made _ l.invariant.1 (omega (arith, c.loop-made-test.true)) _
     (λ k. halve_arrives p l.made l.lower l.upper _ _ m k
     (as_kept _ _ _ _ true l.invariant.0 c.if-narrower-window.true)) in
@@ -50,8 +50,8 @@ loop-made-preserved c =
     ]) in (
       refl,
       capped_goes_on (halve_from p) 255 _ l.made _ l.invariant.1 (omega (arith, c.loop-made-test.true)) _
-      (λ k. halve_goes_on p l.made l.lower l.upper _ _ m k
-      (as_kept _ _ _ _ false l.invariant.0 c.if-narrower-window.false)),
+          (λ k. halve_goes_on p l.made l.lower l.upper _ _ m k
+          (as_kept _ _ _ _ false l.invariant.0 c.if-narrower-window.false)),
     )
 
 -- no halving is left
@@ -62,7 +62,7 @@ returns c =
     let p : Float → Bool = above w.x0 w.dx w.split w.threshold in
     let l = c.loop-made in
     let e : record { lower = l.lower; upper = l.upper; count = l.made; stopped = false }
-        ≡ closing w.x0 w.dx w.split w.threshold c.args.from c.args.to =
+    ≡ closing w.x0 w.dx w.split w.threshold c.args.from c.args.to =
     sym (halve_none p l.made l.lower l.upper)
     ∙ capped_spent (halve_from p) 255 _ l.made _ l.invariant.1 (λ m. omega (arith, c.loop-made-test.false)) in
     let all : 255 ≡ l.made = omega (arith, c.loop-made-test.false, l.auto.made-end) in

@@ -1,6 +1,6 @@
 use Rattle.std.proofs.Common.{◌≡◌, Bool}
 use lib.Ieee.{Float}
-use Rattle.number.specs.Number.{Halved, halve, window}
+use Rattle.number.specs.Number.{halve, window}
 use Rattle.number.proofs.Capped.{Capped}
 use Rattle.ccd3.specs.SafeTime.{above}
 use Rattle.ccd3.proofs.HalvingLoop.{halve_from}
