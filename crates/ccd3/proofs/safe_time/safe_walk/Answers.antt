@@ -5,7 +5,7 @@ use Prim.Native.Nat.{ℕ}
 use lib.Ieee.{Float}
 use Rattle.std.specs.Prelude.{Err}
 use Rattle.number.specs.declared.refusal.Refusal.{Refusal}
-use Rattle.number.specs.Number.{number_of, numbered, answered}
+use Rattle.number.specs.Number.{refusal_number, numbered, answered}
 use Rattle.number.proofs.Answers.{Told, refusal_told, given, refused_by}
 use Rattle.admission.specs.declared.Limits.{Limits}
 use Rattle.admission.specs.Admission.{walk_refusal}
@@ -24,12 +24,12 @@ admitted-requires c = (given _ _ _ (sym c.admit_walk.ensures ∙ c.in-Ok.is)).0
 
 -- a refusal, by the one that the admission gave and its number
 told_by : (x₀ dx : List (List Float)) (split : ℕ) (l : Limits) (allowed : ℕ) (r : Refusal) (k : ℕ)
-    → Err r ≡ answered {A = Unit {0}} (walk_refusal x₀ dx split l allowed) (tt {0}) → k ≡ number_of r
+    → Err r ≡ answered {A = Unit {0}} (walk_refusal x₀ dx split l allowed) (tt {0}) → k ≡ refusal_number r
     → counted_from 0 (still (Refused k)) ≡ counted_from 0 (safe_walk x₀ dx split l allowed)
 told_by x₀ dx split l allowed r k e f =
     let n = walk_refusal x₀ dx split l allowed in
     let by : (n ≡ 0 → ⊥) × (numbered n ≡ r) = refused_by _ _ r (sym e) in
-    let same : k ≡ n = f ∙ ap number_of (sym by.1) ∙ told x₀ dx split l allowed by.0 in
+    let same : k ≡ n = f ∙ ap refusal_number (sym by.1) ∙ told x₀ dx split l allowed by.0 in
     ap (λ (m : ℕ). counted_from 0 (still (Refused m))) same
     ∙ ap (counted_from 0) (sym (safe_refused x₀ dx split l allowed n refl by.0))
 
