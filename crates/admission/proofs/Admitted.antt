@@ -19,7 +19,9 @@ use Rattle.number.proofs.Ranges.{in_bound_lem, zero_to_bound_lem, zero_to_one_le
 use Rattle.geometry.proofs.Bounds.{Each}
 use Rattle.geometry.specs.Geometry.{at, col}
 use Rattle.admission.specs.declared.Limits.{Limits}
-use Rattle.admission.specs.Admission.{Answers, of_three, of_twelve, finite_points, bounded_points, is_split, finite_limits}
+use Rattle.admission.specs.Inner.{Follows}
+use Rattle.admission.specs.Admission.{of_three, of_twelve, finite_points, bounded_points, is_split}
+use Rattle.admission.specs.Admission.{finite_limits}
 use Rattle.admission.specs.Admission.{ranged_limits, full_allowance, is_allowance, walk_refusal, points_refusal}
 use Rattle.admission.specs.Admission.{split_refusal, factor_refusal, motion_refusal, time_refusal, ratio_refusal}
 
@@ -33,7 +35,7 @@ module _ (test : Float → Bool) where
 
   -- what the calls of a test say of a point's three numbers
   pub three_calls : (v : List Float) (r : Bool)
-      → ((t : Float → Bool) → Answers (λ x b. b ≡ test x) t → r ≡ of_three t v) → r ≡ of_three test v
+      → ((t : Float → Bool) → Follows (λ x b. b ≡ test x) t → r ≡ of_three t v) → r ≡ of_three test v
   three_calls v r h = h test (λ x b e. e)
 
   pub twelve_each : (x : List (List Float)) → T (of_twelve test x) → Each test x
@@ -109,7 +111,8 @@ limits_real l =
     both (zero_to_bound o && zero_to_bound c && zero_to_one t) (is_finite o && is_finite c && is_finite t)
     (speed_range u) (is_finite u)
     (both (zero_to_bound o && zero_to_bound c) (is_finite o && is_finite c) (zero_to_one t) (is_finite t)
-    (both (zero_to_bound o) (is_finite o) (zero_to_bound c) (is_finite c) (bounded_real o) (bounded_real c)) (one_real t))
+    (both (zero_to_bound o) (is_finite o) (zero_to_bound c) (is_finite c) (bounded_real o) (bounded_real c))
+    (one_real t))
     (λ h. within_real 60 u (speed_range_lem u h).2)
 
 -- of each call's tests
@@ -118,7 +121,8 @@ module _ (x : List (List Float)) where
   split_real split h = points_real x (and_l (bounded_points x) (is_split split) h)
 
   pub factor_real : (s : Float) → T (bounded_points x && zero_to_bound s) → T (finite_points x && is_finite s)
-  factor_real s = both (bounded_points x) (finite_points x) (zero_to_bound s) (is_finite s) (points_real x) (bounded_real s)
+  factor_real s =
+      both (bounded_points x) (finite_points x) (zero_to_bound s) (is_finite s) (points_real x) (bounded_real s)
 
   pub time_real : (dx : List (List Float)) (t : Float) → T (bounded_points x && bounded_points dx && zero_to_one t)
       → T (finite_points x && finite_points dx && is_finite t)
@@ -156,7 +160,8 @@ range_allowance n a b = and_i (leb 1 n) (leb n full_allowance) (le→leb 1 n a) 
 
 -- ---- each call's refusal number is 0, or names a refusal
 module _ (x : List (List Float)) where
-  pub walk_told : (dx : List (List Float)) (split : ℕ) (l : Limits) (allowed : ℕ) → Told (walk_refusal x dx split l allowed)
+  pub walk_told : (dx : List (List Float)) (split : ℕ) (l : Limits) (allowed : ℕ)
+      → Told (walk_refusal x dx split l allowed)
   unfolding walk_refusal
   walk_told dx split l allowed =
       refusal_told (finite_points x && finite_points dx && finite_limits l)
@@ -174,21 +179,11 @@ module _ (x : List (List Float)) where
   unfolding factor_refusal
   factor_told s = refusal_told (finite_points x && is_finite s) (bounded_points x && zero_to_bound s)
 
-  pub motion_told : (dx : List (List Float)) → Told (motion_refusal x dx)
-  unfolding motion_refusal
-  motion_told dx = refusal_told (finite_points x && finite_points dx) (bounded_points x && bounded_points dx)
-
   pub time_told : (dx : List (List Float)) (t : Float) → Told (time_refusal x dx t)
   unfolding time_refusal
   time_told dx t =
       refusal_told (finite_points x && finite_points dx && is_finite t)
       (bounded_points x && bounded_points dx && zero_to_one t)
-
-pub ratio_told : (p q : List Float) (s : Float) → Told (ratio_refusal p q s)
-unfolding ratio_refusal
-ratio_told p q s =
-    refusal_told (of_three is_finite p && of_three is_finite q && is_finite s)
-    (of_three in_bound p && of_three in_bound q && zero_to_one s)
 
 -- ---- the safe time
 pub record Walkable (x dx : List (List Float)) (split : ℕ) (l : Limits) : Type 0 where
@@ -210,8 +205,8 @@ ranged_walk x dx split l = bounded_points x && bounded_points dx && ranged_limit
 module _ (x dx : List (List Float)) (split : ℕ) (l : Limits) where
   ranged_real : T (ranged_walk x dx split l) → T (finite_walk x dx l)
   ranged_real h =
-      both (bounded_points x && bounded_points dx) (finite_points x && finite_points dx) (ranged_limits l) (finite_limits l)
-      (pair_real x dx) (limits_real l)
+      both (bounded_points x && bounded_points dx) (finite_points x && finite_points dx) (ranged_limits l)
+      (finite_limits l) (pair_real x dx) (limits_real l)
       (and_l (bounded_points x && bounded_points dx && ranged_limits l) (is_split split) h)
 
   -- with an allowance in its range a call is refused as the pair and its limits are

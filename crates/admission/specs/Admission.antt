@@ -1,14 +1,10 @@
 -- What is handed over is admitted, or refused by a number (docs/01-scope.md, "What callers hand over, and the numbers
 -- allowed", "Refusal numbers"). Definitions only.
-use Rattle.std.specs.Prelude.{◌≡◌, ℕ, Bool, ◌&&◌, ◌||◌, List}
+use Rattle.std.specs.Prelude.{ℕ, Bool, ◌&&◌, ◌||◌, List}
 use lib.{Dec.eqb, Dec.leb, Ieee.Float}
 use Rattle.number.specs.Number.{is_finite, in_bound, zero_to_bound, zero_to_one, speed_range, refusal}
 use Rattle.geometry.specs.Geometry.{at, col}
 use Rattle.admission.specs.declared.Limits.{Limits}
-
--- what each call at a number answers is what the test says of it
-abbrev pub Answers : (Float → Bool → Type 0) → (Float → Bool) → Type 0
-Answers post test = (x : Float) (b : Bool) → post x b → b ≡ test x
 
 -- a test passed by the three numbers of a point, by the twelve of four points
 abbrev pub of_three : (Float → Bool) → List Float → Bool

@@ -1,6 +1,7 @@
 // The tests of four points and of what callers hand over with them (docs/01-scope.md, "What callers hand over, and the
-// numbers allowed", "Refusal numbers"). They are admitted, or refused by 1, some number is NaN or infinite, or by 2, none
+// numbers allowed", "Refusal numbers"). They are admitted, or refused: by 1, some number is NaN or infinite; by 2, none
 // is, but one lies beyond its range, the split is neither 2 nor 3, or the allowance is not 1 to 4,096.
+// Points and displacements are arrays by value, and no struct of both: 01-scope.md, "Language forms by place".
 
 #![tactic(auto)]
 
@@ -51,7 +52,7 @@ impl Limits {
 fn is_split(split: usize) -> bool
     ensures { result ≡ Def.is_split split }
 {
-    (split == 2) | (split == 3)
+    matches!(split, 2 | 3)
 }
 
 // How many probes a safe time may make: at most so many, and so many where its caller names no other number.
@@ -60,7 +61,7 @@ pub const FULL_ALLOWANCE: u32 = 4096;
 fn is_allowance(allowance: u32) -> bool
     ensures { result ≡ Def.is_allowance allowance }
 {
-    (1 <= allowance) & (allowance <= FULL_ALLOWANCE)
+    (1..=FULL_ALLOWANCE).contains(&allowance)
 }
 
 // The verdict by the ranges first: what lies in its range is finite, so that of what is admitted the ranges alone are

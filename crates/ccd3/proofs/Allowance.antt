@@ -15,7 +15,8 @@ use Rattle.number.proofs.NoNan.{no_nan_le}
 use Rattle.admission.specs.declared.Limits.{Limits}
 use Rattle.admission.specs.Admission.{full_allowance, is_allowance, walk_refusal}
 use Rattle.admission.proofs.Admitted.{range_allowance, walk_allowed}
-use Rattle.ccd3.specs.SafeTime.{numbers_of, Visit, next, Walked, visit, above, probing, walk, told_of}
+use Rattle.ccd3.specs.declared.Visit.{Visit}
+use Rattle.ccd3.specs.SafeTime.{numbers_of, next, Walked, visit, above, probing, walk, told_of}
 use Rattle.ccd3.specs.SafeTime.{start, threshold, first_squared, touches, safe_walk, safe_time_of}
 use Rattle.ccd3.specs.Allowance.{five_of, GrowsFrom}
 use Rattle.ccd3.proofs.WalkLaws.{walk_clears, walk_spends, walk_meets, walk_steps}

@@ -23,7 +23,8 @@ use Rattle.geometry.specs.Geometry.{Cross, cross_pairs}
 use Rattle.admission.specs.declared.Limits.{Limits}
 use Rattle.ccd3.specs.declared.Aim.{Aim}
 use Rattle.ccd3.specs.SafeTime.{time_to_park, left_of, speed_of, stops, least_over, directional, dip, plain}
-use Rattle.ccd3.specs.SafeTime.{aim, Visit, Step, step_from, next}
+use Rattle.ccd3.specs.declared.Visit.{Visit}
+use Rattle.ccd3.specs.SafeTime.{aim, Step, step_from, next}
 
 -- a squared distance that a walk can compute with: an f32 with the sign plus, and not too large
 pub record Sound (d : Float) : Type 0 where

@@ -16,12 +16,13 @@ use Rattle.number.specs.Number.{zero32, next_up, written, halve}
 use Rattle.number.proofs.NextUp.{next_of}
 use Rattle.number.proofs.Signs.{plus_up, above_plus}
 use Rattle.number.proofs.Transitive.{le_le_trans}
-use Rattle.number.proofs.Units.{Unit32, zero_is, plus, same_float}
+use Rattle.number.proofs.Units.{Unit32, zero_is, same_float}
 use Rattle.number.proofs.Units.Compared.{Is, finite_is, eq_is, lt_says, says_lt, le_says, says_le}
 use Rattle.admission.specs.declared.Limits.{Limits}
 use Rattle.ccd3.specs.declared.Answer.{Answer}
 use Rattle.ccd3.specs.declared.Answer.TheVariants.{Touching, Contact, Clear, Budget, Refused}
-use Rattle.ccd3.specs.SafeTime.{numbers_of, Visit, next, Walked, visit, above, closing, walk}
+use Rattle.ccd3.specs.declared.Visit.{Visit}
+use Rattle.ccd3.specs.SafeTime.{numbers_of, next, Walked, visit, above, closing, walk}
 use Rattle.ccd3.specs.SafeTime.{InTime, Every, Rising, Stopped}
 use Rattle.ccd3.proofs.WalkLaws.{walk_clears, walk_spends, walk_meets, walk_steps}
 use Rattle.ccd3.proofs.Bracket.{Timely, timely_refl, Bracket, bracket_ends}

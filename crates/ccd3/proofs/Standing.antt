@@ -22,7 +22,8 @@ use Rattle.number.proofs.Within.{within_finite}
 use Rattle.geometry.specs.Geometry.{moved}
 use Rattle.distance.specs.Distance.{nearest_of}
 use Rattle.admission.specs.declared.Limits.{Limits}
-use Rattle.ccd3.specs.SafeTime.{Visit, next, squared_at, above, start, visit}
+use Rattle.ccd3.specs.declared.Visit.{Visit}
+use Rattle.ccd3.specs.SafeTime.{next, squared_at, above, start, visit}
 use Rattle.ccd3.proofs.Bracket.{Timely, Bracket}
 use Rattle.ccd3.proofs.Growth.{Sound, next_later, next_fits}
 use Rattle.ccd3.proofs.PlainStep.{Given, plain_finite}

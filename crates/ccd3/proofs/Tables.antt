@@ -2,13 +2,15 @@
 -- what one pair does to the least time, and that both say the same of any list of pairs. Assumes nothing.
 use mathlib.Core.Path.{◌≡◌, refl, ap, ◌∙◌}
 use mathlib.Core.Bool.{Bool, true, false, cond}
-use mathlib.Core.List.{List, [], ◌∷◌}
-use lib.Dec.{T, not_T}
+use mathlib.Core.List.{List, [], ◌∷◌, flat_map}
+use Prim.Native.Nat.{ℕ, zero, suc, ◌≤◌, ◌<◌}
+use native.Mathlib.Omega.{arith}
+use lib.Dec.{T, not_T, lit<, lit≤}
 use lib.Ieee.Bits.{is_false}
 use lib.Ieee.{Float, lt, le}
 use Rattle.number.specs.Number.{◌⊗◌, zero32, largest32, smaller}
 use Rattle.number.proofs.Transitive.{lt_trans, lt_self}
-use Rattle.geometry.specs.Geometry.{Cross}
+use Rattle.geometry.specs.Geometry.{Cross, cross, count, cross_pairs}
 use Rattle.ccd3.specs.declared.Aim.{Aim}
 use Rattle.ccd3.specs.SafeTime.{time_to_park, left_of, speed_of, stops, least_over}
 use Rattle.ccd3.specs.Inner.{time_left, entry, least_in}
@@ -88,3 +90,51 @@ module _ (x dx : List (List Float)) (a : Aim) where
 
     pub tables_give : (ps : List Cross) → Tabled ps → least_in left time D ps largest32 ≡ least_over a x dx ps largest32
     tables_give ps h = alike ps h largest32 (lt_self largest32)
+
+  -- ---- the tables of a split of 2 or 3
+  -- what a pair leaves, where it is on either side of the split
+  abbrev Gap : ℕ → ℕ → ℕ → Float → Type 0
+  Gap split i j r = i < split → split ≤ j → r ≡ left_of a x dx (cross i j)
+
+  abbrev Time : ℕ → ℕ → ℕ → Float → Float → Type 0
+  Time split i j r t = i < split → split ≤ j → t ≡ time_left a r (speed_of a x dx (cross i j))
+
+  abbrev pub table : Float → Float → Float → Float → Float → Float → List (List Float)
+  table z r02 r03 r12 r13 r23 =
+      (z ∷ z ∷ r02 ∷ r03 ∷ []) ∷ (z ∷ z ∷ r12 ∷ r13 ∷ []) ∷ (z ∷ z ∷ z ∷ r23 ∷ []) ∷ []
+
+  module _ (z : Float) {r02 r03 r12 r13 r23 t02 t03 t12 t13 t23 : Float} where
+    pub split_tables : (split : ℕ) → 2 ≤ split → split ≤ 3
+        → Gap split 0 2 r02 → Gap split 0 3 r03 → Gap split 1 2 r12 → Gap split 1 3 r13 → Gap split 2 3 r23
+        → Time split 0 2 r02 t02 → Time split 0 3 r03 t03 → Time split 1 2 r12 t12 → Time split 1 3 r13 t13
+        → Time split 2 3 r23 t23
+        → least_in (table z r02 r03 r12 r13 r23) (table z t02 t03 t12 t13 t23) (a.dip ⊗ a.norm) (cross_pairs split) largest32
+        ≡ least_over a x dx (cross_pairs split) largest32
+    unfolding cross_pairs count flat_map Tabled
+    split_tables zero l m g02 g03 g12 g13 g23 s02 s03 s12 s13 s23 = absurd (omega arith)
+    split_tables (suc zero) l m g02 g03 g12 g13 g23 s02 s03 s12 s13 s23 = absurd (omega arith)
+    split_tables (suc (suc zero)) l m g02 g03 g12 g13 g23 s02 s03 s12 s13 s23 =
+        tables_give _ _ (cross_pairs 2) (
+          g02 (lit< tt) (lit≤ tt),
+          s02 (lit< tt) (lit≤ tt),
+          (
+            g03 (lit< tt) (lit≤ tt),
+            s03 (lit< tt) (lit≤ tt),
+            (
+              g12 (lit< tt) (lit≤ tt),
+              s12 (lit< tt) (lit≤ tt),
+              (g13 (lit< tt) (lit≤ tt), s13 (lit< tt) (lit≤ tt), tt),
+            ),
+          ),
+        )
+    split_tables (suc (suc (suc zero))) l m g02 g03 g12 g13 g23 s02 s03 s12 s13 s23 =
+        tables_give _ _ (cross_pairs 3) (
+          g03 (lit< tt) (lit≤ tt),
+          s03 (lit< tt) (lit≤ tt),
+          (
+            g13 (lit< tt) (lit≤ tt),
+            s13 (lit< tt) (lit≤ tt),
+            (g23 (lit< tt) (lit≤ tt), s23 (lit< tt) (lit≤ tt), tt),
+          ),
+        )
+    split_tables (suc (suc (suc (suc n)))) l m g02 g03 g12 g13 g23 s02 s03 s12 s13 s23 = absurd (omega arith)

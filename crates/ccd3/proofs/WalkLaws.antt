@@ -6,7 +6,8 @@ use mathlib.Core.List.{List}
 use Prim.Native.Nat.{ℕ, zero, suc}
 use lib.Ieee.{Float, lt}
 use Rattle.admission.specs.declared.Limits.{Limits}
-use Rattle.ccd3.specs.SafeTime.{Visit, next, Walked, visit, above, cleared, spent, met, ends, probing, walk}
+use Rattle.ccd3.specs.declared.Visit.{Visit}
+use Rattle.ccd3.specs.SafeTime.{next, Walked, visit, above, cleared, spent, met, ends, probing, walk}
 
 module _ (x₀ dx : List (List Float)) (split : ℕ) (threshold : Float) (l : Limits) where
   abbrev past : Visit → Bool

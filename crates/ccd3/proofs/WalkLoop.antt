@@ -10,7 +10,8 @@ use lib.Ieee.{Float, lt}
 use Rattle.admission.specs.declared.Limits.{Limits}
 use Rattle.ccd3.specs.declared.Ending.{Ending}
 use Rattle.ccd3.specs.declared.Counted.{Counted}
-use Rattle.ccd3.specs.SafeTime.{Visit, next, Walked, visit, above, cleared, spent, met, ends, probing, walk}
+use Rattle.ccd3.specs.declared.Visit.{Visit}
+use Rattle.ccd3.specs.SafeTime.{next, Walked, visit, above, cleared, spent, met, ends, probing, walk}
 use Rattle.ccd3.specs.Inner.{counted_from}
 use Rattle.ccd3.proofs.WalkLaws.{walk_clears, walk_spends, walk_meets, walk_steps}
 

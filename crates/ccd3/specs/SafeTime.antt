@@ -14,7 +14,7 @@ use Rattle.number.specs.Number.{next_up, next_down, root_of, Halved, halve}
 use Rattle.geometry.specs.Geometry.{at, col, vec, minus, dot, moved, Cross, cross_pairs}
 use Rattle.distance.specs.{declared.candidate.Nearest.Nearest, Distance.nearest_of}
 use Rattle.admission.specs.{declared.Limits.Limits, Admission.full_allowance, Admission.walk_refusal}
-use Rattle.ccd3.specs.declared.{Aim.Aim, Answer.Answer, SafeTime.SafeTime, Ending.Ending}
+use Rattle.ccd3.specs.declared.{Visit.Visit, Aim.Aim, Answer.Answer, SafeTime.SafeTime, Ending.Ending}
 use Rattle.ccd3.specs.declared.Answer.TheVariants.{Touching, Contact, Clear, Budget, Refused}
 
 -- ---- the directional step: how far the pair may move before some column of the first side can come near some column
@@ -89,12 +89,6 @@ park l = l.offset ⊕ l.clearance
 
 abbrev pub dip : Limits → Float
 dip l = l.offset ⊕ l.clearance ⊗ half32
-
--- where a walk is: a time, the points there, and what the distance rules say of them
-pub record Visit : Type 0 where
-  pub time : Float
-  pub points : List (List Float)
-  pub near : Nearest
 
 -- safe whatever the direction: what the distance leaves above dip, at the greatest speed
 abbrev pub plain : Limits → Float → Float

@@ -6,7 +6,7 @@ ghost use Rattle.ccd3.specs.SafeTime as Def;
 ghost use Rattle.ccd3.specs.Inner as Inner;
 
 use crate::Aim;
-use geometry::vec3::{dot, sub};
+use geometry::vec3::dot;
 use number::order::{larger, size};
 
 // 2^-22, and what a coordinate may be off.
@@ -31,36 +31,29 @@ fn dot_of_sizes(a: [f32; 3], b: [f32; 3]) -> f32
     dot(sizes(a), sizes(b))
 }
 
-// The gap from one column to another along the direction, less what rounding may have added to it. The columns stand
-// at `from` and `to` and are displaced by `first` and `second`.
-pub(crate) fn projected(
-    from: [f32; 3],
-    to: [f32; 3],
-    first: [f32; 3],
-    second: [f32; 3],
-    a: Aim,
-) -> f32
-    ensures { result ≡ Def.projected a (Vec3.minus to from) (Vec3.minus first second) }
-{
-    let w = a.w;
-    let gap = sub(to, from);
-    let rel = sub(first, second);
-    let err = ROUND_SLACK
-        * (dot_of_sizes(w, gap) + a.max_t * dot_of_sizes(w, rel) + a.park * a.norm)
-        + COORD_SLACK * a.norm;
-    dot(w, gap) - err
-}
+impl Aim {
+    // A gap along the direction, less what rounding may have added to it, of columns that are displaced by `rel` against
+    // one another.
+    #[tactic(auto, unfolding(crate::specs::SafeTime::projected))]
+    pub(crate) fn projected(self, gap: [f32; 3], rel: [f32; 3]) -> f32
+        ensures { result ≡ Def.projected self gap rel }
+    {
+        let w = self.w;
+        let err = ROUND_SLACK
+            * (dot_of_sizes(w, gap) + self.max_t * dot_of_sizes(w, rel) + self.park * self.norm)
+            + COORD_SLACK * self.norm;
+        dot(w, gap) - err
+    }
 
-// How long columns that are displaced by `first` and `second` take to close in, with this gap left; the largest f32
-// where they do not close in.
-pub(crate) fn time_left(left: f32, first: [f32; 3], second: [f32; 3], a: Aim) -> f32
-    ensures { result ≡ Inner.time_left a left (Vec3.dot a.w (Vec3.minus first second)) }
-{
-    let w = a.w;
-    let speed = dot(w, sub(first, second));
-    if 0.0 < speed {
-        larger(left - a.park * a.norm, 0.0) / speed
-    } else {
-        LARGEST
+    // How long columns take to close in at this speed, with this gap left; the largest f32 where they do not close in.
+    #[tactic(auto, unfolding(crate::specs::SafeTime::time_to_park, crate::specs::Inner::time_left))]
+    pub(crate) fn time_left(self, left: f32, speed: f32) -> f32
+        ensures { result ≡ Inner.time_left self left speed }
+    {
+        if 0.0 < speed {
+            larger(left - self.park * self.norm, 0.0) / speed
+        } else {
+            LARGEST
+        }
     }
 }

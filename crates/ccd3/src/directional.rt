@@ -1,12 +1,14 @@
 // The directional step (ccd3.rs: `directional_advance`; docs/01-scope.md, "The directional step").
-ghost use Rattle.std.specs.Prelude.{◌≡◌, ◌≤◌};
+ghost use Rattle.std.specs.Prelude.{◌≡◌, ◌<◌, ◌≤◌};
 ghost use Rattle.number.specs.Number.{largest32};
-ghost use Rattle.geometry.specs.Geometry.{cross_pairs};
+ghost use Rattle.geometry.specs.Geometry.{cross, cross_pairs};
+ghost use Rattle.geometry.specs.Geometry as Vec3;
 ghost use Rattle.ccd3.specs.SafeTime as Def;
 ghost use Rattle.ccd3.specs.Inner as Inner;
 
 use crate::Aim;
-use crate::cross_pair::{LARGEST, projected, time_left};
+use crate::cross_pair::LARGEST;
+use geometry::vec3::{dot, sub};
 use number::order::smaller;
 
 // The least time over the columns i before the split and j from it, where `left` and `time` have at i, j what that
@@ -30,79 +32,74 @@ fn over_sides(left: [[f32; 4]; 3], time: [[f32; 4]; 3], split: usize, dip: f32) 
     step
 }
 
-// Of two edges. What each pair of columns leaves is put into tables before the first test, so that a compiler computes
-// all of it side by side; places of no pair are zero and never read.
-fn between_edges(x: [[f32; 3]; 4], dx: [[f32; 3]; 4], a: Aim) -> f32
-    ensures { result ≡ Def.least_over a x dx (cross_pairs 2) largest32 }
+// What is left of the gap from column i to column j along the direction, where the two are on either side of the split;
+// else 0, which is never read.
+fn gap<const SPLIT: usize>(x: [[f32; 3]; 4], dx: [[f32; 3]; 4], i: usize, j: usize, a: Aim) -> f32
+    requires first { i < 4 }
+    requires second { j < 4 }
+    ensures { i < SPLIT → SPLIT ≤ j → result ≡ Def.left_of a x dx (cross i j) }
 {
-    let x0 = x[0];
-    let x1 = x[1];
-    let x2 = x[2];
-    let x3 = x[3];
-    let d0 = dx[0];
-    let d1 = dx[1];
-    let d2 = dx[2];
-    let d3 = dx[3];
-    let r02 = projected(x0, x2, d0, d2, a);
-    let r03 = projected(x0, x3, d0, d3, a);
-    let r12 = projected(x1, x2, d1, d2, a);
-    let r13 = projected(x1, x3, d1, d3, a);
-    let t02 = time_left(r02, d0, d2, a);
-    let t03 = time_left(r03, d0, d3, a);
-    let t12 = time_left(r12, d1, d2, a);
-    let t13 = time_left(r13, d1, d3, a);
+    if (i < SPLIT) & (SPLIT <= j) {
+        a.projected(sub(x[j], x[i]), sub(dx[i], dx[j]))
+    } else {
+        0.0
+    }
+}
+
+// The time of the two, with this gap left.
+fn time<const SPLIT: usize>(left: f32, dx: [[f32; 3]; 4], i: usize, j: usize, a: Aim) -> f32
+    requires first { i < 4 }
+    requires second { j < 4 }
+    ensures { i < SPLIT → SPLIT ≤ j → result ≡ Inner.time_left a left (Vec3.dot a.w (Def.rel dx (cross i j))) }
+{
+    if (i < SPLIT) & (SPLIT <= j) {
+        let rel = sub(dx[i], dx[j]);
+        a.time_left(left, dot(a.w, rel))
+    } else {
+        0.0
+    }
+}
+
+// Over the columns of either side, of a split of 2 or 3. What each pair of columns leaves is put into tables before the
+// first test, so that a compiler computes all of it side by side; in one table of gaps and times a walk takes 8 % longer
+// for a face and a vertex, and 11 % longer for edges.
+fn least_over<const SPLIT: usize>(x: [[f32; 3]; 4], dx: [[f32; 3]; 4], a: Aim) -> f32
+    requires least { 2 ≤ SPLIT }
+    requires most { SPLIT ≤ 3 }
+    ensures { result ≡ Def.least_over a x dx (cross_pairs SPLIT) largest32 }
+{
+    let r02 = gap::<SPLIT>(x, dx, 0, 2, a);
+    let r03 = gap::<SPLIT>(x, dx, 0, 3, a);
+    let r12 = gap::<SPLIT>(x, dx, 1, 2, a);
+    let r13 = gap::<SPLIT>(x, dx, 1, 3, a);
+    let r23 = gap::<SPLIT>(x, dx, 2, 3, a);
+    let t02 = time::<SPLIT>(r02, dx, 0, 2, a);
+    let t03 = time::<SPLIT>(r03, dx, 0, 3, a);
+    let t12 = time::<SPLIT>(r12, dx, 1, 2, a);
+    let t13 = time::<SPLIT>(r13, dx, 1, 3, a);
+    let t23 = time::<SPLIT>(r23, dx, 2, 3, a);
     let left = [
         [0.0, 0.0, r02, r03],
         [0.0, 0.0, r12, r13],
-        [0.0, 0.0, 0.0, 0.0],
+        [0.0, 0.0, 0.0, r23],
     ];
     let time = [
         [0.0, 0.0, t02, t03],
         [0.0, 0.0, t12, t13],
-        [0.0, 0.0, 0.0, 0.0],
-    ];
-    over_sides(left, time, 2, a.dip * a.norm)
-}
-
-// Of a face and a vertex.
-fn face_to_vertex(x: [[f32; 3]; 4], dx: [[f32; 3]; 4], a: Aim) -> f32
-    ensures { result ≡ Def.least_over a x dx (cross_pairs 3) largest32 }
-{
-    let x0 = x[0];
-    let x1 = x[1];
-    let x2 = x[2];
-    let x3 = x[3];
-    let d0 = dx[0];
-    let d1 = dx[1];
-    let d2 = dx[2];
-    let d3 = dx[3];
-    let r03 = projected(x0, x3, d0, d3, a);
-    let r13 = projected(x1, x3, d1, d3, a);
-    let r23 = projected(x2, x3, d2, d3, a);
-    let t03 = time_left(r03, d0, d3, a);
-    let t13 = time_left(r13, d1, d3, a);
-    let t23 = time_left(r23, d2, d3, a);
-    let left = [
-        [0.0, 0.0, 0.0, r03],
-        [0.0, 0.0, 0.0, r13],
-        [0.0, 0.0, 0.0, r23],
-    ];
-    let time = [
-        [0.0, 0.0, 0.0, t03],
-        [0.0, 0.0, 0.0, t13],
         [0.0, 0.0, 0.0, t23],
     ];
-    over_sides(left, time, 3, a.dip * a.norm)
+    over_sides(left, time, SPLIT, a.dip * a.norm)
 }
 
 // The longest step in which no column of one side can come near one of the other along the direction: 0 where some
 // pair of columns is not beyond dip.
+#[tactic(auto, unfolding(crate::specs::SafeTime::directional))]
 pub(crate) fn directional_advance(x: [[f32; 3]; 4], dx: [[f32; 3]; 4], split: usize, a: Aim) -> f32
     ensures { result ≡ (Def.directional x dx split a).length }
 {
     if split == 2 {
-        between_edges(x, dx, a)
+        least_over::<2>(x, dx, a)
     } else {
-        face_to_vertex(x, dx, a)
+        least_over::<3>(x, dx, a)
     }
 }

@@ -3,6 +3,8 @@
 ghost use Rattle.std.specs.Prelude.{◌≡◌};
 ghost use Rattle.ccd3.specs.SafeTime as Def;
 
+use crate::walk::Walk;
+use distance::nearest;
 use geometry::mat3x4_array_of_cols::add_scaled;
 
 // Where the halving ended: the last time above the threshold and the first that is not, and how many halvings there
@@ -14,51 +16,52 @@ pub(crate) struct Closed {
     pub(crate) count: u32,
 }
 
-// Whether the squared distance at a time is above the threshold.
-fn is_above(x0: [[f32; 3]; 4], dx: [[f32; 3]; 4], split: usize, threshold: f32, t: f32) -> bool
-    ensures { result ≡ Def.above x0 dx split threshold t }
-{
-    distance::nearest::is_above(add_scaled(x0, dx, t), split, threshold)
-}
-
-// Midpoints, until the computed window repeats. The last halving, which moves nothing, is counted.
-pub(crate) fn close_in(
-    x0: [[f32; 3]; 4],
-    dx: [[f32; 3]; 4],
-    split: usize,
-    threshold: f32,
-    from: f32,
-    to: f32,
-) -> Closed
-    ensures lower { result.lower ≡ (Def.closing x0 dx split threshold from to).lower }
-    ensures upper { result.upper ≡ (Def.closing x0 dx split threshold from to).upper }
-    ensures count { result.count ≡ (Def.closing x0 dx split threshold from to).count }
-{
-    let mut lower = from;
-    let mut upper = to;
-    let mut window = upper - lower;
-    let mut count: u32 = 0;
-    while count < 255 {
-        let middle = 0.5 * (upper + lower);
-        if is_above(x0, dx, split, threshold, middle) {
-            lower = middle;
-        } else {
-            upper = middle;
-        }
-        count += 1;
-        let narrower = upper - lower;
-        if narrower == window {
-            return Closed {
-                lower,
-                upper,
-                count,
-            };
-        }
-        window = narrower;
+impl Walk {
+    // Whether the squared distance at a time is above the threshold.
+    #[tactic(auto, unfolding(crate::specs::SafeTime::above, crate::specs::SafeTime::squared_at))]
+    fn is_above(&self, time: f32) -> bool
+        ensures { result ≡ Def.above self.now.x0 self.now.dx self.now.split self.now.threshold time }
+    {
+        nearest::is_above(
+            add_scaled(self.x0, self.dx, time),
+            self.split,
+            self.threshold,
+        )
     }
-    Closed {
-        lower,
-        upper,
-        count,
+
+    // Midpoints, until the computed window repeats. The last halving, which moves nothing, is counted.
+    pub(crate) fn close_in(&self, from: f32, to: f32) -> Closed
+        ensures lower { result.lower
+            ≡ (Def.closing self.now.x0 self.now.dx self.now.split self.now.threshold from to).lower }
+        ensures upper { result.upper
+            ≡ (Def.closing self.now.x0 self.now.dx self.now.split self.now.threshold from to).upper }
+        ensures count { result.count
+            ≡ (Def.closing self.now.x0 self.now.dx self.now.split self.now.threshold from to).count }
+    {
+        let mut lower = from;
+        let mut upper = to;
+        let mut window = upper - lower;
+        for made in 0..255u32 {
+            let middle = 0.5 * (upper + lower);
+            if self.is_above(middle) {
+                lower = middle;
+            } else {
+                upper = middle;
+            }
+            let narrower = upper - lower;
+            if narrower == window {
+                return Closed {
+                    lower,
+                    upper,
+                    count: made + 1,
+                };
+            }
+            window = narrower;
+        }
+        Closed {
+            lower,
+            upper,
+            count: 255,
+        }
     }
 }

@@ -2,6 +2,8 @@
 
 #![tactic(auto)]
 
+use distance::candidate::Nearest;
+
 // How a call ends, each case with its time, or a refusal's number.
 #[derive(Clone, Copy)]
 pub enum Answer {
@@ -18,6 +20,14 @@ pub struct SafeTime {
     pub answer: Answer,
     pub probes: u32,
     pub halvings: u32,
+}
+
+// Where a walk is: a time, the points there, and what the distance rules say of them.
+#[derive(Clone, Copy)]
+pub(crate) struct Visit {
+    pub(crate) time: f32,
+    pub(crate) points: [[f32; 3]; 4],
+    pub(crate) near: Nearest,
 }
 
 // What a directional step is taken along and held against: the direction, its norm, dip, park and the time limit.

@@ -6,7 +6,7 @@ ghost use Rattle.ccd3.specs.SafeTime as Def;
 ghost use Rattle.ccd3.specs.Allowance.{GrowsFrom};
 ghost use Rattle.ccd3.specs.Inner as Inner;
 
-use crate::walk::{unbracketed, walk};
+use crate::walk::{Walk, unbracketed};
 use crate::{Answer, Counted, SafeTime};
 use admission::{FULL_ALLOWANCE, Limits, admit_walk};
 use distance::nearest::nearest;
@@ -20,6 +20,7 @@ fn touches(l: Limits, first: f32) -> bool
 }
 
 // What the squared distance has to stay above, from the one at the start.
+#[tactic(auto, unfolding(crate::specs::SafeTime::threshold_from))]
 fn threshold(l: Limits, first: f32) -> f32
     ensures { result ≡ Def.threshold_from l first }
 {
@@ -51,7 +52,14 @@ fn admitted(
     if touches(l, squared) {
         return still(Answer::Touching(0.0));
     }
-    walk(x0, dx, split, threshold(l, squared), l, allowance, first)
+    let walk = Walk {
+        x0,
+        dx,
+        split,
+        threshold: threshold(l, squared),
+        limits: l,
+    };
+    walk.walk(allowance, first)
 }
 
 // The whole record of a call: how it ends, and how many of the probes allowed it makes.
@@ -64,11 +72,9 @@ fn safe_walk(
 ) -> Counted
     ensures { result ≡ Inner.counted_from 0 (Def.safe_walk x0 dx split limits allowance) }
 {
-    let refusal = admit_walk(x0, dx, split, limits, allowance);
-    if refusal == 0 {
-        admitted(x0, dx, split, limits, allowance)
-    } else {
-        still(Answer::Refused(refusal))
+    match admit_walk(x0, dx, split, limits, allowance) {
+        Ok(()) => admitted(x0, dx, split, limits, allowance),
+        Err(refusal) => still(Answer::Refused(u32::from(refusal))),
     }
 }
 

@@ -7,13 +7,11 @@ use super::candidate::Nearest;
 use super::{edge_edge, face_vertex};
 
 // The first smallest candidate: of edge against edge for split 2, of face against vertex for any other.
+#[tactic(auto, unfolding(crate::specs::Distance::nearest_of, crate::specs::Distance::candidates_of))]
 pub fn nearest(x: [[f32; 3]; 4], split: usize) -> Nearest
     ensures { result ≡ Def.nearest_of split x }
 {
-    let x0 = x[0];
-    let x1 = x[1];
-    let x2 = x[2];
-    let x3 = x[3];
+    let [x0, x1, x2, x3] = x;
     if split == 2 {
         edge_edge::edge_edge(x0, x1, x2, x3)
     } else {
@@ -22,13 +20,11 @@ pub fn nearest(x: [[f32; 3]; 4], split: usize) -> Nearest
 }
 
 // Whether the squared distance is above a threshold, for a caller that wants no more.
+#[tactic(auto, unfolding(crate::specs::Distance::nearest_of, crate::specs::Distance::candidates_of))]
 pub fn is_above(x: [[f32; 3]; 4], split: usize, threshold: f32) -> bool
     ensures { result ≡ lt threshold (Def.nearest_of split x).squared }
 {
-    let x0 = x[0];
-    let x1 = x[1];
-    let x2 = x[2];
-    let x3 = x[3];
+    let [x0, x1, x2, x3] = x;
     if split == 2 {
         edge_edge::edges_above(x0, x1, x2, x3, threshold)
     } else {

@@ -7,6 +7,7 @@ use number::order;
 
 // The ratio from q0 along d of the place that is taken as the nearest to p: 0 where d has no length.
 // The quotient is taken before that test, which a compiler can then make without a branch.
+#[tactic(auto, unfolding(crate::specs::Distance::ratio_along))]
 fn ratio(p: [f32; 3], q0: [f32; 3], d: [f32; 3]) -> f32
     ensures { result ≡ Def.ratio_along p q0 d }
 {
@@ -20,6 +21,7 @@ fn ratio(p: [f32; 3], q0: [f32; 3], d: [f32; 3]) -> f32
 }
 
 // That place on the segment q0 q1.
+#[tactic(auto, unfolding(crate::specs::Distance::place_on))]
 pub(crate) fn place_on(p: [f32; 3], q0: [f32; 3], q1: [f32; 3]) -> [f32; 3]
     ensures { result ≡ Def.place_on p q0 q1 }
 {

@@ -1,21 +1,16 @@
 // Four points as a whole (mat3x4_array_of_cols.rs, all of it): moved, centred, scaled.
 ghost use Rattle.std.specs.Prelude.{◌≡◌};
+ghost use Rattle.geometry.specs.Geometry.{col};
 ghost use Rattle.geometry.specs.Geometry as Def;
 
-use super::vec3::{along, sub};
+use super::vec3::{along, sub, times};
 
 // The points at time t: each column of x0 plus t times its displacement.
 pub fn add_scaled(x0: [[f32; 3]; 4], dx: [[f32; 3]; 4], t: f32) -> [[f32; 3]; 4]
     ensures { result ≡ Def.moved x0 dx t }
 {
-    let a = x0[0];
-    let b = x0[1];
-    let c = x0[2];
-    let d = x0[3];
-    let da = dx[0];
-    let db = dx[1];
-    let dc = dx[2];
-    let dd = dx[3];
+    let [a, b, c, d] = x0;
+    let [da, db, dc, dd] = dx;
     [
         along(a, t, da),
         along(b, t, db),
@@ -25,42 +20,31 @@ pub fn add_scaled(x0: [[f32; 3]; 4], dx: [[f32; 3]; 4], t: f32) -> [[f32; 3]; 4]
 }
 
 // The centre: a quarter of the sum over the columns.
-fn centre(a: [f32; 3], b: [f32; 3], c: [f32; 3], d: [f32; 3]) -> [f32; 3]
-    ensures { result ≡ Def.centre_of a b c d }
+fn centre(x: [[f32; 3]; 4]) -> [f32; 3]
+    ensures { result ≡ Def.centre_of (col x 0) (col x 1) (col x 2) (col x 3) }
 {
-    [
-        (a[0] + b[0] + c[0] + d[0]) * 0.25,
-        (a[1] + b[1] + c[1] + d[1]) * 0.25,
-        (a[2] + b[2] + c[2] + d[2]) * 0.25,
-    ]
+    let quarter = |k: usize| (x[0][k] + x[1][k] + x[2][k] + x[3][k]) * 0.25;
+    [quarter(0), quarter(1), quarter(2)]
 }
 
 // Each column minus the centre.
 pub fn centerized(x: [[f32; 3]; 4]) -> [[f32; 3]; 4]
     ensures { result ≡ Def.centred x }
 {
-    let a = x[0];
-    let b = x[1];
-    let c = x[2];
-    let d = x[3];
-    let m = centre(a, b, c, d);
-    [sub(a, m), sub(b, m), sub(c, m), sub(d, m)]
-}
-
-// The three numbers times s.
-fn times(v: [f32; 3], s: f32) -> [f32; 3]
-    ensures { result ≡ Def.times v s }
-{
-    [v[0] * s, v[1] * s, v[2] * s]
+    let middle = centre(x);
+    let [a, b, c, d] = x;
+    [
+        sub(a, middle),
+        sub(b, middle),
+        sub(c, middle),
+        sub(d, middle),
+    ]
 }
 
 // Each of the twelve numbers times s.
 pub fn scaled(x: [[f32; 3]; 4], s: f32) -> [[f32; 3]; 4]
     ensures { result ≡ Def.scaled x s }
 {
-    let a = x[0];
-    let b = x[1];
-    let c = x[2];
-    let d = x[3];
+    let [a, b, c, d] = x;
     [times(a, s), times(b, s), times(c, s), times(d, s)]
 }

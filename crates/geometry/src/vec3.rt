@@ -23,6 +23,13 @@ pub fn along(a: [f32; 3], t: f32, b: [f32; 3]) -> [f32; 3]
     [a[0] + t * b[0], a[1] + t * b[1], a[2] + t * b[2]]
 }
 
+// a s, each of the three numbers times s
+pub(crate) fn times(a: [f32; 3], s: f32) -> [f32; 3]
+    ensures { result ≡ Def.times a s }
+{
+    [a[0] * s, a[1] * s, a[2] * s]
+}
+
 // a · (b × c)
 pub fn scalar_triple_product(a: [f32; 3], b: [f32; 3], c: [f32; 3]) -> f32
     ensures { result ≡ Def.triple a b c }

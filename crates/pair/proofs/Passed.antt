@@ -1,5 +1,5 @@
--- What a call answers, and what it leaves in the points lent to it, by what admits it: where it is refused, it passes the
--- refusal on, and where it is admitted, it gives its value. Assumes nothing.
+-- What a call answers, and what it leaves in the points lent to it, by what admits it: where it is refused, it passes
+-- the refusal on, and where it is admitted, it gives its value. Assumes nothing.
 use Prim.Native.Nat.{ℕ}
 use mathlib.Core.Path.{◌≡◌, refl, sym, ap, subst, ◌∙◌}
 use mathlib.Core.List.{List}

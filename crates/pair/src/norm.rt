@@ -14,12 +14,11 @@ use number::{order, root};
 fn largest_square(x: [[f32; 3]; 4], split: usize) -> f32
     ensures { result ≡ Def.largest_square x split }
 {
+    let (first, second) = x.split_at(split.min(4));
     let mut largest = 0.0;
-    for i in 0..split {
-        for j in split..4 {
-            let xi = x[i];
-            let xj = x[j];
-            let gap = vec3::sub(xi, xj);
+    for p in first {
+        for q in second {
+            let gap = vec3::sub(*p, *q);
             largest = order::larger(largest, vec3::dot(gap, gap));
         }
     }
@@ -53,8 +52,8 @@ pub fn norm(x: [[f32; 3]; 4], split: usize) -> f32
     }
 }
 
-// The public call: the norm, or a refusal by 1 or 2. A norm of 2^-60 or more is not below the exact largest distance, and
-// not above it times 1 + 2^-20.
+// The public call: the norm, or a refusal by 1 or 2. A norm of 2^-60 or more is not below the exact largest distance,
+// and not above it times 1 + 2^-20.
 pub fn max_relative_norm(x: [[f32; 3]; 4], split: usize) -> Result<f32, Refusal>
     ensures answer { result ≡ answered (split_refusal x split) (Def.norm_of x split) }
     ensures refusal { refusal_of result ≡ split_refusal x split }

@@ -8,6 +8,8 @@ use Rattle.admission.proofs.admit_ratio.Goals as goal
 pub returns : goal.returns
 unfolding ratio_refusal
 returns c =
-    c.by_ranges.ensures _ _ (λ b h. search (rules, h, three_calls is_finite))
-    (search (rules, three_calls in_bound c.args.p0 _ c.of_three.ensures, three_calls in_bound c.args.p1 _ c.of_three-2.ensures))
-    (ratio_real c.args.p0 c.args.p1 c.args.ratio)
+    let a = c.args in
+    let p = three_calls in_bound a.p0 _ c.of_three.ensures in
+    let q = three_calls in_bound a.p1 _ c.of_three-2.ensures in
+    c.by_ranges.ensures _ _ (λ b h. search (rules, h, three_calls is_finite)) (search (rules, p, q))
+    (ratio_real a.p0 a.p1 a.ratio)

@@ -6,4 +6,7 @@ use Rattle.admission.proofs.admit_walk.Goals as goal
 
 pub returns : goal.returns
 unfolding walk_refusal
-returns c = c.by_ranges.ensures _ _ (λ b h. search (rules, h)) (search rules) (walk_real c.args.x0 c.args.dx c.args.split c.args.limits c.args.allowance)
+returns c =
+    let a = c.args in
+    c.by_ranges.ensures _ _ (λ b h. search (rules, h)) (search rules)
+    (walk_real a.x0 a.dx a.split a.limits a.allowance)

@@ -15,4 +15,5 @@ pub returns : goal.returns
 unfolding moved_into
 returns c =
     let a = c.args in
-    lent_given _ (time_told a.x0 a.dx a.t) _ a.x.now _ c.in_ok-admit_time.ensures c.add_scaled.ensures (moved_finite a.x0 a.dx a.t a.x.now)
+    lent_given _ (time_told a.x0 a.dx a.t) _ a.x.now _ c.in_ok-admit_time.ensures c.add_scaled.ensures
+    (moved_finite a.x0 a.dx a.t a.x.now)

@@ -15,4 +15,5 @@ pub returns : goal.returns
 unfolding centred_in
 returns c =
     let a = c.args in
-    lent_given _ (points_told a.x.now) _ a.x.now _ c.in_ok-admit_points.ensures c.centerized.ensures (centred_finite a.x.now)
+    lent_given _ (points_told a.x.now) _ a.x.now _ c.in_ok-admit_points.ensures c.centerized.ensures
+    (centred_finite a.x.now)

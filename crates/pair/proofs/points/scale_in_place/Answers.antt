@@ -15,4 +15,5 @@ pub returns : goal.returns
 unfolding scaled_in
 returns c =
     let a = c.args in
-    lent_given _ (factor_told a.x.now a.s) _ a.x.now _ c.in_ok-admit_factor.ensures c.scaled.ensures (scaled_finite a.x.now a.s)
+    lent_given _ (factor_told a.x.now a.s) _ a.x.now _ c.in_ok-admit_factor.ensures c.scaled.ensures
+    (scaled_finite a.x.now a.s)
