@@ -15,9 +15,7 @@ fn sliding(rt: &impl Print, name: &str, allowance: u32) -> io::Result<()> {
     allowing(
         rt,
         name,
-        pairs::strips(0.0, 7.1525574e-7),
-        dx,
-        2,
+        pairs::edges(pairs::strips(0.0, 7.1525574e-7), dx),
         limits,
         allowance,
     )
@@ -35,9 +33,7 @@ fn meeting(
     allowing(
         rt,
         name,
-        pairs::strips(0.0, 4.0),
-        pairs::raised(0.0, -4.0),
-        2,
+        pairs::edges(pairs::strips(0.0, 4.0), pairs::raised(0.0, -4.0)),
         limits,
         allowance,
     )

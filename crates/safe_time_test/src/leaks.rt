@@ -14,9 +14,7 @@ fn near_parallel_edges(rt: &impl Print) -> io::Result<()> {
     walked(
         rt,
         "passes through, near-parallel edges",
-        x,
-        pairs::raised(0.0, -1.0),
-        2,
+        pairs::edges(x, pairs::raised(0.0, -1.0)),
         limits,
     )
 }
@@ -32,9 +30,7 @@ fn coarse_coordinates(rt: &impl Print) -> io::Result<()> {
     walked(
         rt,
         "passes through, coarse coordinates",
-        x,
-        pairs::vertex_raised(-0.25),
-        3,
+        pairs::face_vertex(x, pairs::vertex_raised(-0.25)),
         limits,
     )
 }
@@ -50,9 +46,7 @@ fn det_underflows(rt: &impl Print) -> io::Result<()> {
     walked(
         rt,
         "passes through, det underflows",
-        x,
-        pairs::raised(0.0, -3.637979e-12),
-        2,
+        pairs::edges(x, pairs::raised(0.0, -3.637979e-12)),
         limits,
     )
 }

@@ -2,85 +2,70 @@
 use admission::Limits;
 use ccd3::safe_time::{maximum_safe_time_accurate, maximum_safe_time_allowing};
 use ccd3::{Answer, SafeTime};
-use std::io;
+use std::{fmt, io};
 
-fn text(rt: &impl Print, s: &str) -> io::Result<()> {
-    rt.print(s)
+// A pair: its points, their displacements, and its split.
+#[derive(Clone, Copy)]
+pub(crate) struct Pair {
+    pub(crate) x: [[f32; 3]; 4],
+    pub(crate) dx: [[f32; 3]; 4],
+    pub(crate) split: usize,
 }
 
-// A space and a count.
-fn count(rt: &impl Print, n: u32) -> io::Result<()> {
-    print!(rt; " {n}")
-}
+// The bits of a number, in eight hex digits.
+#[derive(Clone, Copy)]
+struct Bits(f32);
 
-// Eight hex digits.
-fn hex(rt: &impl Print, n: u32) -> io::Result<()> {
-    print!(rt; "{n:08x}")
-}
-
-// A space and the bits of a number.
-fn number(rt: &impl Print, x: f32) -> io::Result<()> {
-    text(rt, " ")?;
-    if x != x {
-        text(rt, "nan")
-    } else {
-        hex(rt, f32::to_bits(x))
-    }
-}
-
-fn timed(rt: &impl Print, kind: &str, t: f32) -> io::Result<()> {
-    text(rt, kind)?;
-    number(rt, t)
-}
-
-fn answer(rt: &impl Print, a: Answer) -> io::Result<()> {
-    match a {
-        Answer::Touching(t) => timed(rt, "touching", t),
-        Answer::Contact(t) => timed(rt, "contact", t),
-        Answer::Clear(t) => timed(rt, "clear", t),
-        Answer::Budget(t) => timed(rt, "budget", t),
-        Answer::Refused(n) => {
-            text(rt, "refused")?;
-            count(rt, n)
+impl fmt::Display for Bits {
+    fn fmt<W: fmt::Write>(&self, f: &mut fmt::Formatter<W>) -> fmt::Result {
+        if self.0.is_nan() {
+            f.write_str("nan")
+        } else {
+            write!(f, "{:08x}", self.0.to_bits())
         }
     }
 }
 
-// The line of a pair: its name, how it ends with the time, the probes and the halvings.
-fn told(rt: &impl Print, name: &str, r: SafeTime) -> io::Result<()> {
-    text(rt, name)?;
-    text(rt, ": ")?;
-    let a = r.answer;
-    answer(rt, a)?;
-    count(rt, r.probes)?;
-    count(rt, r.halvings)?;
-    text(rt, "\n")
+// How a call ends, with the time or the refusal's number.
+#[derive(Clone, Copy)]
+struct Ending(Answer);
+
+impl fmt::Display for Ending {
+    fn fmt<W: fmt::Write>(&self, f: &mut fmt::Formatter<W>) -> fmt::Result {
+        match self.0 {
+            Answer::Touching(t) => write!(f, "touching {}", Bits(t)),
+            Answer::Contact(t) => write!(f, "contact {}", Bits(t)),
+            Answer::Clear(t) => write!(f, "clear {}", Bits(t)),
+            Answer::Budget(t) => write!(f, "budget {}", Bits(t)),
+            Answer::Refused(n) => write!(f, "refused {n}"),
+        }
+    }
 }
 
-pub(crate) fn walked(
-    rt: &impl Print,
-    name: &str,
-    x: [[f32; 3]; 4],
-    dx: [[f32; 3]; 4],
-    split: usize,
-    limits: Limits,
-) -> io::Result<()> {
-    told(rt, name, maximum_safe_time_accurate(x, dx, split, limits))
+// A pair's name, how it ends, the probes and the halvings.
+fn told(rt: &impl Print, name: &str, r: SafeTime) -> io::Result<()> {
+    println!(rt; "{name}: {} {} {}", Ending(r.answer), r.probes, r.halvings)
+}
+
+pub(crate) fn walked(rt: &impl Print, name: &str, pair: Pair, limits: Limits) -> io::Result<()> {
+    told(
+        rt,
+        name,
+        maximum_safe_time_accurate(pair.x, pair.dx, pair.split, limits),
+    )
 }
 
 // With so many probes allowed.
 pub(crate) fn allowing(
     rt: &impl Print,
     name: &str,
-    x: [[f32; 3]; 4],
-    dx: [[f32; 3]; 4],
-    split: usize,
+    pair: Pair,
     limits: Limits,
     allowance: u32,
 ) -> io::Result<()> {
     told(
         rt,
         name,
-        maximum_safe_time_allowing(x, dx, split, limits, allowance),
+        maximum_safe_time_allowing(pair.x, pair.dx, pair.split, limits, allowance),
     )
 }

@@ -19,9 +19,7 @@ fn a_shared_corner(rt: &impl Print) -> io::Result<()> {
     walked(
         rt,
         "a shared corner",
-        x,
-        dx,
-        2,
+        pairs::edges(x, dx),
         pairs::limits(0.0, 1.0, 1.0, 4.0),
     )
 }
@@ -31,9 +29,7 @@ fn edges_part(rt: &impl Print) -> io::Result<()> {
     walked(
         rt,
         "edges part",
-        pairs::strips(4.0, 9.0),
-        pairs::raised(-4.0, 0.0),
-        2,
+        pairs::edges(pairs::strips(4.0, 9.0), pairs::raised(-4.0, 0.0)),
         limits,
     )
 }
@@ -43,9 +39,7 @@ fn nothing_moves(rt: &impl Print) -> io::Result<()> {
     walked(
         rt,
         "nothing moves",
-        pairs::strips(0.0, 9.0),
-        pairs::raised(0.0, 0.0),
-        2,
+        pairs::edges(pairs::strips(0.0, 9.0), pairs::raised(0.0, 0.0)),
         limits,
     )
 }

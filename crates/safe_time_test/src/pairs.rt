@@ -1,5 +1,5 @@
 // Points, displacements and limits that several lines have in common.
-use crate::line::walked;
+use crate::line::{Pair, walked};
 use admission::Limits;
 use std::io;
 
@@ -33,16 +33,25 @@ pub(crate) fn slid(a: f32) -> [[f32; 3]; 4] {
     ]
 }
 
+// Edge against edge; face against vertex.
+pub(crate) fn edges(x: [[f32; 3]; 4], dx: [[f32; 3]; 4]) -> Pair {
+    Pair { x, dx, split: 2 }
+}
+
+pub(crate) fn face_vertex(x: [[f32; 3]; 4], dx: [[f32; 3]; 4]) -> Pair {
+    Pair { x, dx, split: 3 }
+}
+
 pub(crate) fn limits(offset: f32, clearance: f32, max_t: f32, u_max: f32) -> Limits {
     Limits {
-        offset: offset,
-        clearance: clearance,
-        max_t: max_t,
-        u_max: u_max,
+        offset,
+        clearance,
+        max_t,
+        u_max,
     }
 }
 
 // A strip at height 4 that comes down by 4 upon one at height 0.
 pub(crate) fn strips_meet(rt: &impl Print, name: &str, limits: Limits) -> io::Result<()> {
-    walked(rt, name, strips(0.0, 4.0), raised(0.0, -4.0), 2, limits)
+    walked(rt, name, edges(strips(0.0, 4.0), raised(0.0, -4.0)), limits)
 }

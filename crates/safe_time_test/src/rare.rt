@@ -1,21 +1,18 @@
 // Rare ends of a walk: 4,096 probes, 150 halvings, contact at time 0, steps of length zero.
-use crate::line::{allowing, walked};
+use crate::line::{Pair, allowing, walked};
 use crate::pairs;
 use admission::Limits;
 use std::io;
 
 // Edges at a right angle that come together slowly.
-fn slow_points() -> [[f32; 3]; 4] {
-    [
+fn slow_pair() -> Pair {
+    let x = [
         [0.0, 0.0, 0.0],
         [4.7683716e-7, 0.0, 0.0],
         [0.0, -4.7683716e-7, 3.3001123e-7],
         [0.0, 4.7683716e-7, 3.3001123e-7],
-    ]
-}
-
-fn slow_moves() -> [[f32; 3]; 4] {
-    pairs::raised(0.0, -6.6002247e-7)
+    ];
+    pairs::edges(x, pairs::raised(0.0, -6.6002247e-7))
 }
 
 // Probe 4,096 finds the contact.
@@ -24,19 +21,11 @@ fn slow_limits() -> Limits {
 }
 
 fn slow_edges(rt: &impl Print, name: &str, limits: Limits) -> io::Result<()> {
-    walked(rt, name, slow_points(), slow_moves(), 2, limits)
+    walked(rt, name, slow_pair(), limits)
 }
 
 pub(crate) fn slow_edges_allowing(rt: &impl Print, name: &str, allowance: u32) -> io::Result<()> {
-    allowing(
-        rt,
-        name,
-        slow_points(),
-        slow_moves(),
-        2,
-        slow_limits(),
-        allowance,
-    )
+    allowing(rt, name, slow_pair(), slow_limits(), allowance)
 }
 
 // The same of a face and a vertex.
@@ -47,7 +36,12 @@ fn slow_face(rt: &impl Print, name: &str, limits: Limits) -> io::Result<()> {
         [0.0, 4.7683716e-7, 0.0],
         [1.1920929e-7, 1.1920929e-7, 2.701114e-7],
     ];
-    walked(rt, name, x, pairs::vertex_raised(-5.402228e-7), 3, limits)
+    walked(
+        rt,
+        name,
+        pairs::face_vertex(x, pairs::vertex_raised(-5.402228e-7)),
+        limits,
+    )
 }
 
 fn contact_at_time_0(rt: &impl Print) -> io::Result<()> {
@@ -61,9 +55,7 @@ fn contact_at_time_0(rt: &impl Print) -> io::Result<()> {
     walked(
         rt,
         "contact at time 0",
-        x,
-        pairs::slid(-0.94499624),
-        2,
+        pairs::edges(x, pairs::slid(-0.94499624)),
         limits,
     )
 }
@@ -79,9 +71,7 @@ fn contact_with_150_halvings(rt: &impl Print) -> io::Result<()> {
     walked(
         rt,
         "contact with 150 halvings",
-        x,
-        pairs::slid(-0.74016404),
-        2,
+        pairs::edges(x, pairs::slid(-0.74016404)),
         limits,
     )
 }
@@ -96,9 +86,7 @@ fn zero_steps(rt: &impl Print) -> io::Result<()> {
     walked(
         rt,
         "zero steps",
-        x,
-        pairs::raised(0.0, -0.5),
-        2,
+        pairs::edges(x, pairs::raised(0.0, -0.5)),
         pairs::limits(1.0, 0.0, 1.0, 0.5),
     )
 }

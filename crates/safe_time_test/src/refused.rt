@@ -1,5 +1,5 @@
 // Points, displacements and splits that are refused.
-use crate::line::walked;
+use crate::line::{Pair, walked};
 use crate::pairs;
 use admission::Limits;
 use std::io;
@@ -16,7 +16,7 @@ fn displaced(rt: &impl Print, name: &str, number: f32, limits: Limits) -> io::Re
         [0.0, 0.0, number],
         [0.0, 0.0, -4.0],
     ];
-    walked(rt, name, pairs::strips(0.0, 4.0), dx, 2, limits)
+    walked(rt, name, pairs::edges(pairs::strips(0.0, 4.0), dx), limits)
 }
 
 fn a_coordinate_above_2_20(rt: &impl Print) -> io::Result<()> {
@@ -29,9 +29,7 @@ fn a_coordinate_above_2_20(rt: &impl Print) -> io::Result<()> {
     walked(
         rt,
         "a coordinate above 2^20",
-        x,
-        pairs::raised(0.0, -4.0),
-        2,
+        pairs::edges(x, pairs::raised(0.0, -4.0)),
         common(),
     )
 }
@@ -44,9 +42,11 @@ pub(crate) fn all(rt: &impl Print) -> io::Result<()> {
     walked(
         rt,
         "split 4",
-        pairs::strips(0.0, 4.0),
-        pairs::raised(0.0, -4.0),
-        4,
+        Pair {
+            x: pairs::strips(0.0, 4.0),
+            dx: pairs::raised(0.0, -4.0),
+            split: 4,
+        },
         common(),
     )
 }

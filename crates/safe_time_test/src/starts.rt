@@ -10,9 +10,7 @@ fn strips_part(rt: &impl Print, name: &str, limits: Limits) -> io::Result<()> {
     walked(
         rt,
         name,
-        pairs::strips(0.0, 4.0),
-        pairs::raised(0.0, 4.0),
-        2,
+        pairs::edges(pairs::strips(0.0, 4.0), pairs::raised(0.0, 4.0)),
         limits,
     )
 }
@@ -21,9 +19,7 @@ fn one_allowed(rt: &impl Print) -> io::Result<()> {
     allowing(
         rt,
         "below dip, 1 probe allowed",
-        pairs::strips(0.0, 4.0),
-        pairs::raised(0.0, 4.0),
-        2,
+        pairs::edges(pairs::strips(0.0, 4.0), pairs::raised(0.0, 4.0)),
         limits(0.0, 10.0, 1.0, 4.0),
         1,
     )

@@ -1,6 +1,0 @@
--- A number that equals itself is no NaN.
-use Rattle.number.proofs.NoNan.{no_nan_ne}
-use Rattle.safe_time_test.proofs.line.number.Goals as goal
-
-pub float_to_bits-x : goal.float_to_bits-x
-float_to_bits-x g c = no_nan_ne _ c.if-x.false
