@@ -88,8 +88,6 @@ def hold_imports():
 
 
 # ---- functions
-# docs/01-scope.md has the caller lend the pair record: in the library the C face alone does
-LENT = "motion::scaling::normalize_centerized_configuration"
 FUNCTION = re.compile(r'^(?P<indent>[ \t]*)(?P<how>pub(?:\(crate\))? )?(?P<c>extern "C" )?fn (?P<name>\w+)', re.M)
 IMPL = re.compile(r"^impl\b.*?(?P<type>\w+)(?:<[^{]*>)? {$", re.M)
 
@@ -128,7 +126,7 @@ def public_functions():
             if "requires" in head:
                 fault(name_of(path), f"{name} is public and has a requires")
             others = [t for p, t in SOURCES.items() if crate_of(p) != crate_of(path) and f"{crate_of(path)}::" in t]
-            if not function["c"] and key != LENT and not any(occurs(name, text) for text in others):
+            if not function["c"] and not any(occurs(name, text) for text in others):
                 fault(name_of(path), f"{name} is public and no other crate calls it")
             found[key] = crate_of(path)
         # a conversion that other crates may use: its statement is a member of the impl
