@@ -23,7 +23,8 @@ fn chosen(section: &[u8], number: u32) -> [f32; 3]
     point(section, 12 * (number as usize))
 }
 
-// The four points of a pair, of a section: written out, since of the array's `map` nothing that a proof could use is known.
+// The four points of a pair, of a section. They are written out: tried with the array's `map`, of whose answer no lemma
+// speaks, the proof did not close.
 fn gathered(section: &[u8], pair: &[u8]) -> [[f32; 3]; 4]
     ensures { result ≡ Inner.gathered_of section.now pair.now }
 {
