@@ -1,5 +1,6 @@
 // Absolute value, smaller, larger, clamp, a zero as it is written, and the next f32 down (docs/01-scope.md, "Number
-// helpers").
+// helpers"). The definitions say which of equals is answered, and what of a NaN: the library's `min` and `max` leave the
+// first open, its `clamp` asks for ends in order.
 ghost use Rattle.std.specs.Prelude.{◌≡◌};
 ghost use Rattle.number.specs.Number as Def;
 

@@ -16,7 +16,7 @@ fn between(low: f32, high: f32, x: f32) -> bool
 pub fn is_finite(x: f32) -> bool
     ensures { result ≡ Def.is_finite x }
 {
-    between(-3.4028235e38, 3.4028235e38, x)
+    between(-f32::MAX, f32::MAX, x)
 }
 
 // Coordinates, displacements, coefficients: size at most 2^20.
