@@ -48,7 +48,8 @@ impl Limits {
     }
 }
 
-// Two points against two, or three against one.
+// Two points against two, or three against one: how many columns are on the first side. It is a number and no enum:
+// C hands it over, loops end by it, and the definitions take any.
 fn is_split(split: usize) -> bool
     ensures { result ≡ Def.is_split split }
 {

@@ -12,7 +12,7 @@ use polynomial_root::answer::Roots;
 use polynomial_root::cubic::Cubic;
 use polynomial_root::cubic_roots_in_range_zero_to_t;
 
-// The volume spanned by three edges that move, as a cubic of the time.
+// The volume spanned by three edges that move, as a cubic of the time: of six vectors, as its definition is.
 #[tactic(auto, unfolding(crate::specs::Motion::volume))]
 fn volume(
     x1: [f32; 3],

@@ -29,7 +29,7 @@ fn list(output: &mut impl Write, bytes: &[u8]) -> io::Result<()> {
 }
 
 // Reads a scene and lists it. The buffer is longer than any scene file, so that a file that fills it is refused for its
-// length.
+// length; fixed memory, and no heap.
 fn read_and_list(input: &mut impl Read, output: &mut impl Write) -> Result<(), Failure> {
     let mut buffer = [0u8; 65536];
     let n = read_full(input, &mut buffer).map_err(Failure::Input)?;

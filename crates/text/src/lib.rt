@@ -38,7 +38,8 @@ impl<'a> Page<'a> {
         self.at = self.at.saturating_add(text.len());
     }
 
-    // The decimal digits of n, none of them a zero in front.
+    // The decimal digits of n, none of them a zero in front. The kit's writers of digits fill an array and say how far;
+    // std writes numbers through `fmt`, of whose bytes no clause speaks.
     pub fn decimal(&mut self, n: u32)
         ensures written { Written self.old (Def.decimal n) self.new }
         ensures short { length (Def.decimal n) ≤ 10 }
