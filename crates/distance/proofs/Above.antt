@@ -2,7 +2,8 @@
 -- it, and no other is at or below it. A NaN among the others is passed over, as in the choice. Assumes nothing.
 use mathlib.Core.Path.{◌≡◌, refl, sym, ap, ◌∙◌}
 use mathlib.Core.Bool.{Bool, true, false, not, ◌&&◌, cond, false≢true}
-use mathlib.Core.List.{List, [], ◌∷◌}
+use mathlib.Core.List.{List, [], ◌∷◌, ◌++◌, map}
+use Rattle.std.specs.List.{fold}
 use lib.Dec.{T, T_not, not_T}
 use lib.Ieee.{Float, lt, le}
 use lib.Ieee.Fits.{and_i, and_l, and_r}
@@ -10,15 +11,14 @@ use Rattle.number.proofs.Units.Compared.{same_test}
 use Rattle.number.proofs.NoNan.{no_nan_lt}
 use Rattle.number.proofs.Comparing.{not_lt_le}
 use Rattle.distance.specs.declared.candidate.Nearest.{Nearest}
-use Rattle.distance.specs.Distance.{Candidates, nearer, nearest_from, first_smallest, only}
-use Rattle.distance.proofs.Choice.{nearest_back, Found}
+use Rattle.distance.specs.Distance.{nearer, nearest_from, only}
+use Rattle.distance.proofs.Choice.{nearest_append}
 use Rattle.number.proofs.Transitive.{lt_trans, le_lt_trans, lt_not_le}
 
 module _ (t : Float) where
   -- the first is above t, and none of the list is at or below it
-  unfoldable pub all_above : Nearest → List Nearest → Bool
-  all_above first [] = lt t first.squared
-  all_above first (b ∷ before) = all_above first before && not (le b.squared t)
+  abbrev pub clear : Bool → Float → Bool
+  clear above x = above && not (le x t)
 
   -- x is the least so far, y the next
   module _ (x y : Float) where
@@ -50,13 +50,13 @@ module _ (t : Float) where
       go true f g = f tt
       go false f g = g tt
 
-  above_back : (first : Nearest) (middle : List Nearest)
-      → lt t (nearest_back first middle).squared ≡ all_above first middle
-  unfolding nearest_back all_above
-  above_back first [] = refl
-  above_back first (b ∷ before) =
-      above_nearer (nearest_back first before) b
-      ∙ ap (λ (z : Bool). z && not (le b.squared t)) (above_back first before)
+  above_from : (first : Nearest) (others : List Nearest)
+      → lt t (nearest_from first others).squared ≡ fold clear (lt t first.squared) (map (λ (n : Nearest). n.squared) others)
+  unfolding nearest_from
+  above_from first [] = refl
+  above_from first (b ∷ rest) =
+      above_from (nearer first b) rest
+      ∙ ap (λ (z : Bool). fold clear z (map (λ (n : Nearest). n.squared) rest)) (above_nearer first b)
 
   -- after a comes the interior candidate where it is there
   last_reaches : (a b : Nearest) (there : Bool) → there && le b.squared t ≡ true
@@ -79,14 +79,17 @@ module _ (t : Float) where
       same false = refl
   last_clears a b false h = refl
 
-  -- the candidates as calls found them
-  module _ {c : Candidates} {first inner : Nearest} {middle : List Nearest} {there : Bool}
-      (f : Found c first middle there inner) where
-    pub inner_reaches : there && le inner.squared t ≡ true → false ≡ lt t (first_smallest c).squared
-    inner_reaches h =
-        sym (last_reaches _ inner there h) ∙ ap (λ (n : Nearest). lt t n.squared) f.all
+  -- a first candidate, others, and the interior one
+  module _ (first : Nearest) (others : List Nearest) (there : Bool) (inner : Nearest) where
+    last : lt t (nearest_from (nearest_from first others) (only there inner)).squared
+        ≡ lt t (nearest_from first (others ++ only there inner)).squared
+    last = ap (λ (n : Nearest). lt t n.squared) (sym (nearest_append first others (only there inner)))
 
-    pub inner_clears : there && le inner.squared t ≡ false → all_above first middle ≡ lt t (first_smallest c).squared
-    inner_clears h =
-        sym (above_back first middle) ∙ sym (last_clears _ inner there h)
-        ∙ ap (λ (n : Nearest). lt t n.squared) f.all
+    pub inner_reaches : there && le inner.squared t ≡ true
+        → false ≡ lt t (nearest_from first (others ++ only there inner)).squared
+    inner_reaches h = sym (last_reaches _ inner there h) ∙ last
+
+    pub inner_clears : there && le inner.squared t ≡ false
+        → fold clear (lt t first.squared) (map (λ (n : Nearest). n.squared) others)
+        ≡ lt t (nearest_from first (others ++ only there inner)).squared
+    inner_clears h = sym (above_from first others) ∙ sym (last_clears _ inner there h) ∙ last

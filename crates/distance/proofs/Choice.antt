@@ -1,13 +1,19 @@
 -- The choice as the code makes it, over the list of candidates: it keeps the least squared distance so far, and
 -- answers the last candidate that is below the least of those before it, else the first. Proved once for both splits.
 -- Assumes nothing.
-use mathlib.Core.Path.{◌≡◌, refl, ◌∙◌}
+use mathlib.Core.Path.{◌≡◌, refl, sym, ap, ◌∙◌}
 use mathlib.Core.Bool.{Bool, true, false, ◌&&◌, cond, false≢true}
-use mathlib.Core.List.{List, [], ◌∷◌}
+use mathlib.Core.List.{List, [], ◌∷◌, ◌++◌}
+use Rattle.std.proofs.Common.{ℕ, zero, suc, ◌+◌, ◌<◌, ◌≤◌, length, take, get_or, add-one, arith, take_all}
+use mathlib.Core.Logic.{inl, inr}
+use native.Mathlib.Nat.{eq-or-lt_of_le}
+use Rattle.std.proofs.Math.ListN.{set}
+use Rattle.std.proofs.lemmas.List.{get_or-set_other}
+use Rattle.std.proofs.lemmas.Grind.{get_or-set_at}
 use lib.Ieee.{Float, lt}
 use Rattle.number.specs.Number.{smaller}
 use Rattle.distance.specs.declared.candidate.Nearest.{Nearest}
-use Rattle.distance.specs.Distance.{Candidates, nearer, nearest_from, first_smallest, only}
+use Rattle.distance.specs.Distance.{nearer, nearest_from, only}
 
 -- the nearer of a and b, where m is the squared distance of a
 module _ (a b : Nearest) (m : Float) (is_least : m ≡ a.squared) where
@@ -27,44 +33,6 @@ module _ (a b : Nearest) (m : Float) (is_least : m ≡ a.squared) where
       go true = refl
       go false = refl
 
--- ---- a first candidate and those between it and the interior one, in a list with the last of them at its head
-unfoldable pub nearest_back : Nearest → List Nearest → Nearest
-nearest_back first [] = first
-nearest_back first (b ∷ before) = nearer (nearest_back first before) b
-
--- the candidates c as calls found them: the interior one stands last, where it is there
-pub record Found (c : Candidates) (first : Nearest) (middle : List Nearest) (there : Bool)
-    (inner : Nearest) : Type 0 where
-  pub all : nearest_from (nearest_back first middle) (only there inner) ≡ first_smallest c
-
--- m is the least squared distance but for the interior one, as calls found it
-pub data Least (first : Nearest) : List Nearest → Float → Type 0 where
-  one : Least first [] first.squared
-  more : {b : Nearest} {before : List Nearest} {m n : Float} → Least first before m → n ≡ smaller m b.squared
-      → Least first (b ∷ before) n
-
-least_is : {first : Nearest} {middle : List Nearest} {m : Float} → Least first middle m
-    → m ≡ (nearest_back first middle).squared
-unfolding nearest_back
-least_is one = refl
-least_is (more l e) = e ∙ nearer_least _ _ _ (least_is l)
-
--- r is the last of them that is below the least of those before it, the first where none is
-pub data Last (first : Nearest) : (middle : List Nearest) (m : Float) → Least first middle m → Nearest → Type 0 where
-  start : Last first [] first.squared one first
-  taken : {b : Nearest} {before : List Nearest} {m n : Float} {l : Least first before m}
-      {e : n ≡ smaller m b.squared} → lt b.squared m ≡ true → Last first (b ∷ before) n (more l e) b
-  passed : {b r : Nearest} {before : List Nearest} {m n : Float} {l : Least first before m}
-      {e : n ≡ smaller m b.squared} → lt b.squared m ≡ false → Last first before m l r
-      → Last first (b ∷ before) n (more l e) r
-
-last_nearest : {first r : Nearest} {middle : List Nearest} {m : Float} {l : Least first middle m}
-    → Last first middle m l r → r ≡ nearest_back first middle
-unfolding nearest_back
-last_nearest start = refl
-last_nearest (taken {l = l} t) = nearer_takes _ _ _ (least_is l) t
-last_nearest (passed {l = l} t r) = last_nearest r ∙ nearer_stays _ _ _ (least_is l) t
-
 -- after a comes the interior candidate b, where it is there
 module _ (a b : Nearest) (m : Float) (is_least : m ≡ a.squared) where
   last_taken : (there : Bool) → there && lt b.squared m ≡ true → b ≡ nearest_from a (only there b)
@@ -77,32 +45,72 @@ module _ (a b : Nearest) (m : Float) (is_least : m ≡ a.squared) where
   last_passed true h = nearer_stays a b m is_least h
   last_passed false h = refl
 
--- ---- what the calls of one function gave, and what it answers
-pub record Given (c : Candidates) : Type 0 where
-  pub first : Nearest
-  pub middle : List Nearest
-  pub there : Bool
-  pub inner : Nearest
-  pub least : Float
-  pub found : Found c first middle there inner
-  pub run : Least first middle least
+-- ---- a list of candidates after a first one, one by one
+pub nearest_append : (first : Nearest) (xs ys : List Nearest)
+    → nearest_from first (xs ++ ys) ≡ nearest_from (nearest_from first xs) ys
+unfolding nearest_from
+nearest_append first [] ys = refl
+nearest_append first (x ∷ xs) ys = nearest_append (nearer first x) xs ys
 
-abbrev pub given : {c : Candidates} {first inner : Nearest} {middle : List Nearest} {there : Bool} {least : Float}
-    → Found c first middle there inner → Least first middle least → Given c
-given {first} {inner} {middle} {there} {least} f l = record {
-  first = first;
-  middle = middle;
-  there = there;
-  inner = inner;
-  least = least;
-  found = f;
-  run = l;
-}
+pub nearest_next : (first : Nearest) (xs : List Nearest) (i : ℕ) (d : Nearest) → i < length xs
+    → nearest_from first (take (suc i) xs) ≡ nearer (nearest_from first (take i xs)) (get_or xs i d)
+unfolding nearest_from
+nearest_next first [] i d h = absurd (omega arith)
+nearest_next first (x ∷ xs) zero d h = refl
+nearest_next first (x ∷ xs) (suc i) d h = nearest_next (nearer first x) xs i d (omega arith)
 
-module _ {c : Candidates} (g : Given c) where
-  pub inner_answered : g.there && lt g.inner.squared g.least ≡ true → g.inner ≡ first_smallest c
-  inner_answered t = last_taken _ _ _ (least_is g.run) g.there t ∙ g.found.all
+-- the least squared distance of the first candidate and i others
+abbrev pub least_of : Nearest → List Nearest → ℕ → Float
+least_of first others i = (nearest_from first (take i others)).squared
 
-  pub other_answered : {r : Nearest} → g.there && lt g.inner.squared g.least ≡ false
-      → Last g.first g.middle g.least g.run r → r ≡ first_smallest c
-  other_answered t r = last_nearest r ∙ last_passed _ _ _ (least_is g.run) g.there t ∙ g.found.all
+module _ (first : Nearest) (others : List Nearest) where
+  pub least_next : (i : ℕ) (d : Nearest) (m n : Float) → i < length others → m ≡ least_of first others i
+      → n ≡ smaller m (get_or others i d).squared → n ≡ least_of first others (i + 1)
+  least_next i d m n h e f =
+      f ∙ nearer_least (nearest_from first (take i others)) (get_or others i d) m e
+      ∙ rw add-one (sym (ap (λ (b : Nearest). b.squared) (nearest_next first others i d h)))
+
+  -- what stands before each other, with one more
+  pub least_kept : (before : List Float) (i : ℕ) (m : Float) → i < length before → m ≡ least_of first others i
+      → ((k : ℕ) (d : Float) → k < i → get_or before k d ≡ least_of first others k)
+      → (k : ℕ) (d : Float) → k < i + 1 → get_or (set before i m) k d ≡ least_of first others k
+  least_kept before i m h e each k d l =
+      let below : k ≤ i = omega arith in
+      elim (eq-or-lt_of_le below) [
+        | inl same ↦ get_or-set_at before i k m d same h ∙ e ∙ sym (ap (least_of first others) same)
+        | inr less ↦ get_or-set_other before i k m d (λ same. absurd (omega arith)) ∙ each k d less
+      ]
+
+  pub none_before : (i : ℕ) → i ≤ 0 → nearest_from first others ≡ nearest_from first (take i others)
+      → first ≡ nearest_from first others
+  unfolding nearest_from
+  none_before i z e =
+      let none : i ≡ 0 = omega arith in
+      sym (e ∙ ap (λ (j : ℕ). nearest_from first (take j others)) none)
+
+  -- from the last to the first: one that is below the least of all before it, or is not
+  module _ (i k : ℕ) (d : Nearest) (m : Float) (next : i ≡ suc k) (h : k < length others)
+      (is_least : m ≡ least_of first others k)
+      (after : nearest_from first others ≡ nearest_from first (take i others)) where
+    all : nearest_from first others ≡ nearer (nearest_from first (take k others)) (get_or others k d)
+    all = after ∙ ap (λ (j : ℕ). nearest_from first (take j others)) next ∙ nearest_next first others k d h
+
+    pub taken_at : lt (get_or others k d).squared m ≡ true → get_or others k d ≡ nearest_from first others
+    taken_at t = nearer_takes _ _ m is_least t ∙ sym all
+
+    pub passed_at : lt (get_or others k d).squared m ≡ false
+        → nearest_from first others ≡ nearest_from first (take k others)
+    passed_at t = all ∙ sym (nearer_stays _ _ m is_least t)
+
+  -- the interior candidate comes last
+  module _ (there : Bool) (inner : Nearest) (i : ℕ) (m : Float) (full : length others ≤ i)
+      (is_least : m ≡ least_of first others i) where
+    of_all : m ≡ (nearest_from first others).squared
+    of_all = is_least ∙ ap (λ (xs : List Nearest). (nearest_from first xs).squared) (take_all i others full)
+
+    pub inner_taken : there && lt inner.squared m ≡ true → inner ≡ nearest_from first (others ++ only there inner)
+    inner_taken t = last_taken _ inner m of_all there t ∙ sym (nearest_append first others (only there inner))
+
+    pub inner_passed : there && lt inner.squared m ≡ false → (r : Nearest) → r ≡ nearest_from first others
+        → r ≡ nearest_from first (others ++ only there inner)
+    inner_passed t r e = e ∙ last_passed _ inner m of_all there t ∙ sym (nearest_append first others (only there inner))

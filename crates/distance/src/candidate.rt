@@ -1,9 +1,12 @@
 // Candidates for the distance of a pair (docs/01-scope.md, "Our distance rules").
-ghost use Rattle.std.specs.Prelude.{◌≡◌};
+ghost use Rattle.std.specs.Prelude.{◌≡◌, ◌++◌, ◌&&◌, not, fold};
+ghost use Rattle.std.specs.Float.Ieee.{lt, le};
+ghost use Rattle.distance.specs.Distance.{nearest_from, only};
 ghost use Rattle.distance.specs.Distance as Def;
 
 use super::segment;
 use geometry::vec3;
+use number::order::smaller;
 
 // A squared distance, the direction from the first side to the second, and which candidate it was.
 #[derive(Clone, Copy)]
@@ -42,4 +45,42 @@ impl Nearest {
     {
         Nearest::from_to(n, segment::place_on(p, q0, q1), p)
     }
+}
+
+// The first smallest of a first candidate, of others, and last of an interior one where that is there: the last one
+// that is nearer than all before it.
+pub(crate) fn first_smallest<const N: usize>(
+    first: Nearest,
+    others: [Nearest; N],
+    there: bool,
+    inner: Nearest,
+) -> Nearest
+    ensures { result ≡ nearest_from first (others.entry ++ only there inner) }
+{
+    let mut least = first.squared;
+    let mut before = [least; N];
+    for i in 0..N {
+        before[i] = least;
+        least = smaller(least, others[i].squared);
+    }
+    if there & (inner.squared < least) {
+        return inner;
+    }
+    for i in (0..N).rev() {
+        if others[i].squared < before[i] {
+            return others[i];
+        }
+    }
+    first
+}
+
+// Whether a first squared distance is above a threshold, and none of the others at or below it.
+pub(crate) fn all_above<const N: usize>(first: f32, others: [f32; N], threshold: f32) -> bool
+    ensures { result ≡ fold (λ above x. above && not (le x threshold)) (lt threshold first) others.entry }
+{
+    let mut above = threshold < first;
+    for squared in others {
+        above &= !(squared <= threshold);
+    }
+    above
 }

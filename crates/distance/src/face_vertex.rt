@@ -2,13 +2,11 @@
 ghost use Rattle.std.specs.Prelude.{◌≡◌};
 ghost use Rattle.std.specs.Float.Ieee.{lt};
 ghost use Rattle.geometry.specs.Geometry.{minus};
-ghost use Rattle.distance.specs.Distance.{first_smallest};
 ghost use Rattle.distance.specs.Distance as Def;
 
-use super::candidate::Nearest;
+use super::candidate::{Nearest, all_above, first_smallest};
 use super::products::Products;
 use geometry::vec3::{along, sub};
-use number::order;
 
 // The products of two edges of the face and the gap from their corner to the vertex.
 fn products(x0: [f32; 3], x1: [f32; 3], x2: [f32; 3], x3: [f32; 3]) -> Products
@@ -37,27 +35,16 @@ fn interior(p: Products, x0: [f32; 3], x1: [f32; 3], x2: [f32; 3], x3: [f32; 3])
     Nearest::from_to(3, place, x3)
 }
 
-// The first smallest of the four candidates: the last one that is nearer than all before it.
+// The first smallest of the four candidates.
 pub(crate) fn face_vertex(x0: [f32; 3], x1: [f32; 3], x2: [f32; 3], x3: [f32; 3]) -> Nearest
-    ensures { result ≡ first_smallest (Def.face_vertex x0 x1 x2 x3) }
+    ensures { result ≡ Def.first_smallest (Def.face_vertex x0 x1 x2 x3) }
 {
     let p = products(x0, x1, x2, x3);
     let c0 = Nearest::segment_point(0, x0, x1, x3);
     let c1 = Nearest::segment_point(1, x1, x2, x3);
     let c2 = Nearest::segment_point(2, x2, x0, x3);
     let inner = interior(p, x0, x1, x2, x3);
-    let least1 = order::smaller(c0.squared, c1.squared);
-    let least2 = order::smaller(least1, c2.squared);
-    if over_face(p) & (inner.squared < least2) {
-        return inner;
-    }
-    if c2.squared < least1 {
-        return c2;
-    }
-    if c1.squared < c0.squared {
-        return c1;
-    }
-    c0
+    first_smallest(c0, [c1, c2], over_face(p), inner)
 }
 
 // Whether the squared distance is above a threshold. The interior candidate is asked first: where it is there it is
@@ -69,7 +56,7 @@ pub(crate) fn face_above(
     x3: [f32; 3],
     threshold: f32,
 ) -> bool
-    ensures { result ≡ lt threshold (first_smallest (Def.face_vertex x0 x1 x2 x3)).squared }
+    ensures { result ≡ lt threshold (Def.first_smallest (Def.face_vertex x0 x1 x2 x3)).squared }
 {
     let p = products(x0, x1, x2, x3);
     let inner = interior(p, x0, x1, x2, x3).squared;
@@ -79,5 +66,5 @@ pub(crate) fn face_above(
     let d0 = Nearest::segment_point(0, x0, x1, x3).squared;
     let d1 = Nearest::segment_point(1, x1, x2, x3).squared;
     let d2 = Nearest::segment_point(2, x2, x0, x3).squared;
-    (threshold < d0) & !(d1 <= threshold) & !(d2 <= threshold)
+    all_above(d0, [d1, d2], threshold)
 }
