@@ -5,24 +5,16 @@ use mathlib.Core.Bool.{Bool, true, false, not, true≢false, cond}
 use Prim.Native.Nat.{ℕ, ◌%◌, zero, suc, ◌*◌, ◌^◌, ◌<◌}
 use native.Mathlib.Omega.{arith}
 use lib.Dec.{T, ltb, eqb, ltb→lt, eqb→eq}
-use lib.Ieee.{Float, nan, inf, fin, binary32, ne, lt, le, is_nan, of_bits, round, units, odd, up, down}
+use lib.Ieee.{Float, nan, inf, fin, binary32, lt, le, is_nan, of_bits, round, units, odd, up, down}
 use lib.Ieee.{div, unlike}
 use borrow.Author.Tests.{lt-ltb}
 use lib.Ieee.Bits.{nan_bits_is, nan_bits_above}
-use lib.Ieee.Compare.{nan_differs}
 use lib.Ieee.Fits.{round_is}
 use lib.Ieee.Order.{drop, kept}
 use lib.Ieee.Scale.{finite}
 use Rattle.number.specs.Number.{zero32}
 use Rattle.number.proofs.Units.{L}
 use Rattle.number.proofs.Numbers.{zero_size}
-
--- the test x != x
-pub no_nan_ne : (x : Float) → ne x x ≡ false → T (not (is_nan x))
-unfolding is_nan
-no_nan_ne nan h = absurd (true≢false (sym nan_differs ∙ h))
-no_nan_ne (inf s) h = tt
-no_nan_ne (fin s m e) h = tt
 
 -- any comparison that holds
 pub no_nan_lt : (x y : Float) → T (lt x y) → T (not (is_nan x)) × T (not (is_nan y))
