@@ -1,5 +1,6 @@
--- Tables of what each cross pair leaves give the directional step of the definition (specs/SafeTime.antt, specs/Inner.antt):
--- what one pair does to the least time, and that both say the same of any list of pairs. Assumes nothing.
+-- Tables of what each cross pair leaves give the directional step of the definition (specs/SafeTime.antt,
+-- specs/Inner.antt): what one pair does to the least time, that both say the same of any list of pairs, and so of the
+-- cross pairs of a split of 2 or 3. Assumes nothing.
 use mathlib.Core.Path.{◌≡◌, refl, ap, ◌∙◌}
 use mathlib.Core.Bool.{Bool, true, false, cond}
 use mathlib.Core.List.{List, [], ◌∷◌, flat_map}
@@ -108,7 +109,8 @@ module _ (x dx : List (List Float)) (a : Aim) where
         → Gap split 0 2 r02 → Gap split 0 3 r03 → Gap split 1 2 r12 → Gap split 1 3 r13 → Gap split 2 3 r23
         → Time split 0 2 r02 t02 → Time split 0 3 r03 t03 → Time split 1 2 r12 t12 → Time split 1 3 r13 t13
         → Time split 2 3 r23 t23
-        → least_in (table z r02 r03 r12 r13 r23) (table z t02 t03 t12 t13 t23) (a.dip ⊗ a.norm) (cross_pairs split) largest32
+        → least_in (table z r02 r03 r12 r13 r23) (table z t02 t03 t12 t13 t23) (a.dip ⊗ a.norm) (cross_pairs split)
+        largest32
         ≡ least_over a x dx (cross_pairs split) largest32
     unfolding cross_pairs count flat_map Tabled
     split_tables zero l m g02 g03 g12 g13 g23 s02 s03 s12 s13 s23 = absurd (omega arith)

@@ -32,8 +32,8 @@ fn dot_of_sizes(a: [f32; 3], b: [f32; 3]) -> f32
 }
 
 impl Aim {
-    // A gap along the direction, less what rounding may have added to it, of columns that are displaced by `rel` against
-    // one another.
+    // A gap along the direction, less what rounding may have added to it, of columns that are displaced by `rel`
+    // against one another.
     #[tactic(auto, unfolding(crate::specs::SafeTime::projected))]
     pub(crate) fn projected(self, gap: [f32; 3], rel: [f32; 3]) -> f32
         ensures { result ≡ Def.projected self gap rel }

@@ -1,4 +1,5 @@
-// The safe time of a pair (ccd3.rs: `maximum_safe_time_accurate`; docs/01-scope.md, "The walk", "The allowance").
+// The safe time of a pair (ccd3.rs: `maximum_safe_time_accurate`; docs/01-scope.md, "The walk", "The allowance"). Pair,
+// split, limits and allowance stay apart, as `urtemval_safe_time_allowing` hands them over.
 ghost use Rattle.std.specs.Prelude.{◌≡◌};
 ghost use Rattle.std.specs.Float.Ieee.{le};
 ghost use Rattle.admission.specs.Admission.{full_allowance, walk_refusal};

@@ -51,7 +51,8 @@ module _ (t : Float) where
       go false f g = g tt
 
   above_from : (first : Nearest) (others : List Nearest)
-      → lt t (nearest_from first others).squared ≡ fold clear (lt t first.squared) (map (λ (n : Nearest). n.squared) others)
+      → lt t (nearest_from first others).squared
+      ≡ fold clear (lt t first.squared) (map (λ (n : Nearest). n.squared) others)
   unfolding nearest_from
   above_from first [] = refl
   above_from first (b ∷ rest) =

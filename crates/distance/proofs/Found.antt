@@ -7,7 +7,8 @@ use lib.Ieee.{Float}
 use Rattle.geometry.specs.Geometry.{minus}
 use Rattle.distance.specs.declared.candidate.Nearest.{Nearest}
 use Rattle.distance.specs.declared.products.Products.{Products}
-use Rattle.distance.specs.Distance.{products_of, point_segment, segment_point, only, nearest_from, first_smallest, edges_meet}
+use Rattle.distance.specs.Distance.{products_of, point_segment, segment_point, only, nearest_from, first_smallest}
+use Rattle.distance.specs.Distance.{edges_meet}
 use Rattle.distance.specs.Distance.{edge_interior, edge_edge, over_face, face_interior, face_vertex}
 
 module _ (x0 x1 x2 x3 : List Float) {c0 c1 c2 inner : Nearest} {there : Bool} {p : Products} where

@@ -2,7 +2,6 @@
 mod Choice
 mod Found
 mod Above
-mod Split
 mod Listed
 mod Ratios
 mod Weights

@@ -8,7 +8,8 @@ use super::segment;
 use geometry::vec3;
 use number::order::smaller;
 
-// A squared distance, the direction from the first side to the second, and which candidate it was.
+// A squared distance, the direction from the first side to the second, and which candidate it was: by its number, which
+// `urtemval_squared_distance` tells C.
 #[derive(Clone, Copy)]
 pub struct Nearest {
     pub squared: f32,

@@ -25,7 +25,8 @@ fn over_face(p: Products) -> bool
     (0.0 < p.det) & (0.0 <= v) & (0.0 <= w) & (v + w <= 1.0)
 }
 
-// The interior candidate, whether or not it is there.
+// The interior candidate, whether or not it is there. A flag and a value, since as an `Option` it is computed behind a
+// branch, and a walk takes 5 % longer.
 #[tactic(auto, unfolding(crate::specs::Distance::face_interior))]
 fn interior(p: Products, x0: [f32; 3], x1: [f32; 3], x2: [f32; 3], x3: [f32; 3]) -> Nearest
     ensures { result ≡ Def.face_interior p x0 x1 x2 x3 }
@@ -48,7 +49,8 @@ pub(crate) fn face_vertex(x0: [f32; 3], x1: [f32; 3], x2: [f32; 3], x3: [f32; 3]
 }
 
 // Whether the squared distance is above a threshold. The interior candidate is asked first: where it is there it is
-// often the nearest, and one candidate that is not above settles it.
+// often the nearest, and one candidate that is not above settles it. The others are written out here and above: out of
+// one function that answers them in an array, a walk takes 6 % longer.
 pub(crate) fn face_above(
     x0: [f32; 3],
     x1: [f32; 3],

@@ -1,4 +1,5 @@
-// The distance of a pair by its split (docs/01-scope.md, "Our distance rules").
+// The distance of a pair by its split (docs/01-scope.md, "Our distance rules"). The rules are over the points x0 to x3,
+// and so is what is called here.
 ghost use Rattle.std.specs.Prelude.{◌≡◌};
 ghost use Rattle.std.specs.Float.Ieee.{lt};
 ghost use Rattle.distance.specs.Distance as Def;

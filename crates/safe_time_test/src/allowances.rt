@@ -40,11 +40,15 @@ fn meeting(
 }
 
 pub(crate) fn all(rt: &impl Print) -> io::Result<()> {
-    sliding(rt, "sliding, 1 probe allowed", 1)?;
-    sliding(rt, "sliding, 2 allowed", 2)?;
-    sliding(rt, "sliding, 3 allowed", 3)?;
-    sliding(rt, "sliding, 4095 allowed", 4095)?;
-    sliding(rt, "sliding, 4096 allowed", 4096)?;
+    for (name, allowance) in [
+        ("sliding, 1 probe allowed", 1),
+        ("sliding, 2 allowed", 2),
+        ("sliding, 3 allowed", 3),
+        ("sliding, 4095 allowed", 4095),
+        ("sliding, 4096 allowed", 4096),
+    ] {
+        sliding(rt, name, allowance)?;
+    }
     rare::slow_edges_allowing(rt, "slow edges, 4095 allowed", 4095)?;
     rare::slow_edges_allowing(rt, "slow edges, 4096 allowed", 4096)?;
     meeting(rt, "contact, 1 allowed", 1.0, 1.0, 1)?;

@@ -14,8 +14,8 @@ pub loop-i-preserved : goal.loop-i-preserved
 loop-i-preserved g c = (
   rw length-set c.loop-i.invariant.0,
   least_next c.args.first c.args.others c.loop-i.i _ _ _ (omega arith) c.loop-i.invariant.1 c.smaller-least.ensures,
-  least_kept c.args.first c.args.others c.loop-i.before c.loop-i.i c.loop-i.least (omega (arith, c.loop-i.invariant.0)) c.loop-i.invariant.1
-      c.loop-i.invariant.2,
+  least_kept c.args.first c.args.others c.loop-i.before c.loop-i.i c.loop-i.least
+      (omega (arith, c.loop-i.invariant.0)) c.loop-i.invariant.1 c.loop-i.invariant.2,
 )
 
 pub returns-then-there-inner : goal.returns-then-there-inner

@@ -95,7 +95,8 @@ loop-ending-preserved c =
     let l = c.loop-ending in
     let far : above w.x0 w.dx w.split w.threshold c.next_time-next.result ≡ true =
     probe w.x0 w.dx w.split w.threshold _ _ c.visit-there.ensures true c.if-self-there.true in
-    let time : c.visit-there.result.time ≡ c.next_time-next.result = ap (λ (v : Visit). v.time) c.visit-there.ensures in (
+    let time : c.visit-there.result.time ≡ c.next_time-next.result =
+    ap (λ (v : Visit). v.time) c.visit-there.ensures in (
       capped_goes_on (walk_from w.x0 w.dx w.split w.threshold w.limits) c.args.allowance _ l.probes _ l.invariant.0
           (omega (arith, c.if-probes-allowance.false, l.invariant.0.small)) (l.probes + 1, c.visit-there.result)
           (λ k. steps w.x0 w.dx w.split w.threshold w.limits l.probes l.here _ c.next_time-next.ensures
