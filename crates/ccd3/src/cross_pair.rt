@@ -15,7 +15,7 @@ const ROUND_SLACK: f32 = 2.384185791015625e-7;
 const COORD_SLACK: f32 = 6.2e-7;
 
 // The largest finite f32.
-pub(crate) const LARGEST: f32 = 3.4028235e38;
+pub(crate) const LARGEST: f32 = f32::MAX;
 
 // The sizes of the three numbers.
 fn sizes(v: [f32; 3]) -> [f32; 3]

@@ -12,7 +12,8 @@ use geometry::vec3::{dot, sub};
 use number::order::smaller;
 
 // The least time over the columns i before the split and j from it, where `left` and `time` have at i, j what that
-// pair leaves. The first pair that is not beyond dip ends both loops at once with step 0.
+// pair leaves. The first pair that is not beyond dip ends both loops at once with step 0 (docs/01-scope.md, "Language
+// forms by place").
 fn over_sides(left: [[f32; 4]; 3], time: [[f32; 4]; 3], split: usize, dip: f32) -> f32
     requires { split ≤ 3 }
     ensures { result ≡ Inner.least_in left time dip (cross_pairs split) largest32 }

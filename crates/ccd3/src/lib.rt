@@ -4,7 +4,8 @@
 
 use distance::candidate::Nearest;
 
-// How a call ends, each case with its time, or a refusal's number.
+// How a call ends, each case with its time, or a refusal's number: the form that docs/01-scope.md has for this place
+// ("Language forms by place").
 #[derive(Clone, Copy)]
 pub enum Answer {
     Touching(f32),
@@ -41,7 +42,8 @@ pub(crate) struct Aim {
 }
 
 // How a walk ends: its answer; the time of the visit from which the last step was taken, and the last time probed; the
-// ends of the last bracket, and how often it was halved. With no bracket its ends are zero; with no walk all is.
+// ends of the last bracket, and how often it was halved. With no bracket its ends are zero; with no walk all is. The
+// definitions speak of this record (`SafeTime.walk`), and of the next (`Inner.counted_from`).
 #[derive(Clone, Copy)]
 pub(crate) struct Ending {
     pub(crate) answer: Answer,

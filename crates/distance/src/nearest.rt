@@ -1,5 +1,6 @@
 // The distance of a pair by its split (docs/01-scope.md, "Our distance rules"). The rules are over the points x0 to x3,
-// and so is what is called here.
+// and so is what is called here. The split is asked for in a line each: it is a number that the caller hands over, and a
+// trait of the two splits would be chosen by the same test.
 ghost use Rattle.std.specs.Prelude.{◌≡◌};
 ghost use Rattle.std.specs.Float.Ieee.{lt};
 ghost use Rattle.distance.specs.Distance as Def;

@@ -10,7 +10,8 @@ use Rattle.number.proofs.SquareRoot.Taken.{argument_is, not_above_none, not_fini
 use Rattle.number.proofs.by_hand.argument_of.Goals as goal
 
 -- ---- a subnormal argument, raised
-up : (x : Float) → T (fits binary32 x) → T (lt zero32 x) → to_bits binary32 x / 8388608 ≡ 0 → Raised (to_bits binary32 x)
+up : (x : Float) → T (fits binary32 x) → T (lt zero32 x) → to_bits binary32 x / 8388608 ≡ 0
+    → Raised (to_bits binary32 x)
 up x f a z = raised (to_bits binary32 x) (some_bits x f a) (omega arith)
 
 pub overflow_sub-z : goal.overflow_sub-z

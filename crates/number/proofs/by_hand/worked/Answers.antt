@@ -48,10 +48,12 @@ digit-s-requires c =
 pub loop-preserved : goal.loop-preserved
 loop-preserved c =
     let l = c.loop in
-    next c.args.n c.args.turns l.s l.place l.counter l.invariant (omega arith) (omega arith) c.digit-s.result c.digit-s.ensures
+    next c.args.n c.args.turns l.s l.place l.counter l.invariant (omega arith) (omega arith) c.digit-s.result
+    c.digit-s.ensures
 
 pub returns : goal.returns
 returns c =
     let l = c.loop in
     let e : l.counter ≡ c.args.turns = let f = l.invariant.few in omega arith in
-    subst (λ (q : ℕ). OnSheet (c.args.n * 2 ^ 25) q l.s) (l.invariant.at ∙ ap (λ (j : ℕ). 2 ^ (25 - j)) e) l.invariant.on
+    subst (λ (q : ℕ). OnSheet (c.args.n * 2 ^ 25) q l.s) (l.invariant.at ∙ ap (λ (j : ℕ). 2 ^ (25 - j)) e)
+    l.invariant.on

@@ -46,5 +46,5 @@ pub returns-else-a-eq0 : goal.returns-else-a-eq0
 returns-else-a-eq0 c =
     let t = digits c.args.x (subst T (sym c.well_formed.0.1) tt) _ c.argument_of-a.ensures (λ n. omega arith) in
     let a = c.argument_of-a.result in
-    sym (root_is a.digits a.exponent c.root_bits.result t.low t.high t.short c.root_bits.ensures c.args.x t.scale t.above
-    t.finite)
+    sym (root_is a.digits a.exponent c.root_bits.result t.low t.high t.short c.root_bits.ensures c.args.x t.scale
+    t.above t.finite)
