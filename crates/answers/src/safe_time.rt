@@ -3,7 +3,8 @@ use crate::words::{self, Call};
 use admission::Limits;
 use ccd3::safe_time;
 
-// The words of an answer: the refusal, 0 for none; the kind; the time, 0 where it is refused.
+// The words of an answer: the refusal, 0 for none; the kind; the time, 0 where it is refused. They are the stream's, by
+// a table of its own: this program answers for the library, and not for the C face.
 fn told(answer: ccd3::Answer) -> (u32, u32, f32) {
     match answer {
         ccd3::Answer::Touching(time) => (0, 0, time),

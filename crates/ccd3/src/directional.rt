@@ -93,7 +93,7 @@ fn least_over<const SPLIT: usize>(x: [[f32; 3]; 4], dx: [[f32; 3]; 4], a: Aim) -
 }
 
 // The longest step in which no column of one side can come near one of the other along the direction: 0 where some
-// pair of columns is not beyond dip.
+// pair of columns is not beyond dip. The split is asked for in a line: it is a number that the caller hands over.
 #[tactic(auto, unfolding(crate::specs::SafeTime::directional))]
 pub(crate) fn directional_advance(x: [[f32; 3]; 4], dx: [[f32; 3]; 4], split: usize, a: Aim) -> f32
     ensures { result ≡ (Def.directional x dx split a).length }

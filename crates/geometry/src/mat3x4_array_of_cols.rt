@@ -1,4 +1,5 @@
-// Four points as a whole (mat3x4_array_of_cols.rs, all of it): moved, centred, scaled.
+// Four points as a whole (mat3x4_array_of_cols.rs, all of it): moved, centred, scaled. Columns are written out: with an
+// array's `map` the proofs did not close but by a clause at each closure, which is longer.
 ghost use Rattle.std.specs.Prelude.{◌≡◌};
 ghost use Rattle.geometry.specs.Geometry.{col};
 ghost use Rattle.geometry.specs.Geometry as Def;

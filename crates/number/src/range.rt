@@ -1,5 +1,5 @@
 // The tests of the ranges that a number handed over must lie in (docs/01-scope.md, "The numbers allowed").
-// Both ends are in; minus zero is zero; a NaN lies in none. And the refusal number that the tests of a call give.
+// Both ends are in; minus zero is zero; a NaN lies in none. And the verdict of a call's tests.
 ghost use Rattle.std.specs.Prelude.{◌≡◌};
 ghost use Rattle.number.specs.Number as Def;
 
@@ -12,7 +12,7 @@ fn between(low: f32, high: f32, x: f32) -> bool
     (low <= x) & (x <= high)
 }
 
-// Neither NaN nor an infinity.
+// Neither NaN nor an infinity: by two comparisons, where the library's test takes a difference.
 pub fn is_finite(x: f32) -> bool
     ensures { result ≡ Def.is_finite x }
 {

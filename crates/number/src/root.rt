@@ -17,7 +17,8 @@ fn root_bits(a: Argument) -> u32
     (((a.exponent >> 1) + 51) << 23) + ((s.twice + 2) >> 2)
 }
 
-// The f32 nearest to the exact root of a positive finite x; plus zero for any other x.
+// The f32 nearest to the exact root of a positive finite x; plus zero for any other x. It is worked out digit by digit,
+// as docs/01-scope.md has it, and not by the library's `sqrt`.
 pub fn root(x: f32) -> f32
     ensures { result ≡ Def.root_of x }
 {

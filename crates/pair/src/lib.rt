@@ -1,5 +1,6 @@
 // The public calls on the four points of a pair at one time, which refuse (docs/01-scope.md, "What callers hand over,
-// and the numbers allowed", "Refusal numbers"). The functions of `geometry` and `distance` below them are total.
+// and the numbers allowed", "Refusal numbers"). The functions of `geometry` and `distance` below them are total. Points
+// and displacements are arrays by value, as docs/01-scope.md has them ("Language forms by place").
 
 #![tactic(auto)]
 

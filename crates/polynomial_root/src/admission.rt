@@ -7,7 +7,8 @@ use crate::search::Search;
 use number::range::{above_zero_to_one, in_bound, is_finite, verdict, zero_to_bound};
 use number::refusal::Refusal;
 
-// What lies in its range is finite and need not be asked.
+// What lies in its range is finite and need not be asked. Said twice here, and once in `admission`: a function over both
+// would be public, and ask that the test which it is given can be called.
 pub(crate) fn admit_quadratic(c0: f32, c1: f32, c2: f32) -> Result<(), Refusal>
     ensures { result ≡ answered (Def.quadratic_refusal c0 c1 c2) tt }
 {

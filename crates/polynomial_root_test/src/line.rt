@@ -1,16 +1,12 @@
 // One line of the output: an answer by the number of its refusal, 0 for none, the count, and the bits of the three
 // places.
+use number::pattern::bits_of;
 use number::refusal::Refusal;
 use polynomial_root::answer::Roots;
 use std::fmt;
 
 #[derive(Drop)]
 pub(crate) struct Line(pub(crate) Result<Roots, Refusal>);
-
-// The bits of a number; of an answered NaN, which there is none, all ones.
-fn bits(r: f32) -> u32 {
-    if r.is_nan() { 0xffff_ffff } else { r.to_bits() }
-}
 
 impl fmt::Display for Line {
     fn fmt<W: fmt::Write>(&self, f: &mut fmt::Formatter<W>) -> fmt::Result {
@@ -20,7 +16,7 @@ impl fmt::Display for Line {
         };
         write!(f, "{refusal} {}", roots.count)?;
         for r in roots.roots {
-            write!(f, " {:08x}", bits(r))?;
+            write!(f, " {:08x}", bits_of(r))?;
         }
         Ok(())
     }

@@ -72,7 +72,7 @@ fn usage(rt: &impl Eprint) -> io::Result<()> {
 }
 
 // Reads to the end, a block at a time; the last word may end with the input. A proved loop has to end, and nothing says
-// that the input does: the turns are of a number that no run uses up.
+// that the input does: the turns are of a number that no run uses up. Fixed memory, and no heap.
 fn read_all(input: &mut impl Read, output: &mut impl Write) -> Result<(), Failure> {
     let mut buffer = [0u8; 4096];
     let mut reading = Reading {

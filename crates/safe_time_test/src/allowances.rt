@@ -54,6 +54,6 @@ pub(crate) fn all(rt: &impl Print) -> io::Result<()> {
     meeting(rt, "contact, 1 allowed", 1.0, 1.0, 1)?;
     meeting(rt, "none allowed", 1.0, 1.0, 0)?;
     meeting(rt, "4097 allowed", 1.0, 1.0, 4097)?;
-    meeting(rt, "none allowed, a NaN", 1.0, 0.0 / 0.0, 0)?;
+    meeting(rt, "none allowed, a NaN", 1.0, f32::NAN, 0)?;
     meeting(rt, "none allowed, in the band", 5.0, 1.0, 0)
 }

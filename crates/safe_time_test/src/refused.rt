@@ -36,8 +36,8 @@ fn a_coordinate_above_2_20(rt: &impl Print) -> io::Result<()> {
 
 pub(crate) fn all(rt: &impl Print) -> io::Result<()> {
     // a NaN is told before a time limit that is out of range
-    displaced(rt, "a NaN", 0.0 / 0.0, pairs::limits(0.0, 1.0, 2.0, 4.0))?;
-    displaced(rt, "an infinity", 1.0 / 0.0, common())?;
+    displaced(rt, "a NaN", f32::NAN, pairs::limits(0.0, 1.0, 2.0, 4.0))?;
+    displaced(rt, "an infinity", f32::INFINITY, common())?;
     a_coordinate_above_2_20(rt)?;
     walked(
         rt,

@@ -23,8 +23,7 @@ fn chosen(section: &[u8], number: u32) -> [f32; 3]
     point(section, 12 * (number as usize))
 }
 
-// The four points of a pair, of a section. They are written out: tried with the array's `map`, of whose answer no lemma
-// speaks, the proof did not close.
+// The four points of a pair, of a section. They are written out: with the array's `map` the proof did not close.
 fn gathered(section: &[u8], pair: &[u8]) -> [[f32; 3]; 4]
     ensures { result ≡ Inner.gathered_of section.now pair.now }
 {

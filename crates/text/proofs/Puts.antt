@@ -8,7 +8,7 @@ use lib.Seq.{sets, sets-eq, length-sets}
 use Rattle.std.specs.Borrow.{MutBor}
 use Rattle.text.specs.Text.{Put, Starts, Written, most}
 use Rattle.text.specs.declared.Page.{Page}
-use Rattle.text.proofs.Sets.{sets_on}
+use Rattle.text.proofs.Sets.{sets_append, sets_on}
 
 -- one text, and then another where it ended
 pub and_then : {p q r : Page} {a b : List ℕ} → Written p a q → Written q b r → Written p (a ++ b) r
@@ -33,6 +33,17 @@ still_fits {p} {q} {a} w = omega (arith, w.fits, ap length w.wrote, length-sets 
 -- another name for the text
 pub as_text : {p q : Page} {a b : List ℕ} → a ≡ b → Written p a q → Written p b q
 as_text e w = rw e at w
+
+-- the same of a text that is put into a buffer
+pub put_and_then : {o o' o'' a b : List ℕ} {i j k : ℕ} → Put o i a o' j → Put o' j b o'' k → Put o i (a ++ b) o'' k
+put_and_then {o} {o'} {o''} {a} {b} {i} {j} {k} p q = record {
+  wrote =
+      q.wrote
+      ∙ ap (λ (l : List ℕ). sets l j b) p.wrote
+      ∙ ap (λ (n : ℕ). sets (sets o i a) n b) p.moved
+      ∙ sets_append a b o i;
+  moved = omega (arith, p.moved, q.moved, length-append a b);
+}
 
 -- what was written on a page from its start on is put into the buffer behind it
 pub put : {o : MutBor (List ℕ)} {p q : Page} {a o' : List ℕ} {i j : ℕ} → Starts o i p → Written p a q

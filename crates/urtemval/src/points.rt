@@ -44,7 +44,8 @@ pub extern "C" fn urtemval_scale_pair(
 {
     let mut pair = Pair { x: *x, dx: *dx };
     let answer = normalize_centerized_configuration(&mut pair, max_t);
-    if answer.is_ok() {
+    let scaled = answer.is_ok();
+    if scaled {
         *x = pair.x;
         *dx = pair.dx;
     }

@@ -7,7 +7,7 @@ use Rattle.motion.specs.Motion.{scaling_refusal, factors_for, leaves, Scales}
 use Rattle.motion.proofs.Scalings.{refused_stands}
 use Rattle.urtemval.specs.Face.{told, pair_of}
 use Rattle.urtemval.proofs.points.urtemval_scale_pair.Goals as goal
-use Rattle.urtemval.proofs.points.urtemval_scale_pair.Goals.{then-is_ok, else-is_ok}
+use Rattle.urtemval.proofs.points.urtemval_scale_pair.Goals.{then-scaled, else-scaled}
 
 module _ (p q : Pair) (t : Float) (a : Result Float Refusal) (h : Scales p t a q) where
   stands : is_ok a ≡ false → p ≡ leaves p t
@@ -20,13 +20,13 @@ pub returns : goal.returns
 returns c =
     let call = c.normalize_centerized_configuration-answer in
     let p = pair_of c.args.x.now c.args.dx.now in
-    let after : Pair = record { x = c.if-is_ok.x; dx = c.if-is_ok.dx } in
+    let after : Pair = record { x = c.if-scaled.x; dx = c.if-scaled.dx } in
     let left : after ≡ leaves p c.args.max_t =
-    elim c.if-is_ok.branch [
-      | then-is_ok w ↦ (λ i. record { x = w.x-is i; dx = w.dx-is i }) ∙ call.ensures.left
-      | else-is_ok w ↦
+    elim c.if-scaled.branch [
+      | then-scaled w ↦ (λ i. record { x = w.x-is i; dx = w.dx-is i }) ∙ call.ensures.left
+      | else-scaled w ↦
           (λ i. record { x = w.x-is i; dx = w.dx-is i })
-          ∙ stands p call.new.pair c.args.max_t call.result call.ensures (sym w.if-is_ok.ensures.value)
+          ∙ stands p call.new.pair c.args.max_t call.result call.ensures (sym w.if-scaled.ensures.value)
     ]
     in
     record {
