@@ -1,5 +1,4 @@
 // Vectors of three numbers (vec3.rs: `sub`, `dot`, `scalar_triple_product`). Sums of three go left to right.
-// The three numbers are written out: a closure over them is no plainer.
 // Three numbers are three formulas in a line, and by an index no shorter.
 ghost use Rattle.std.specs.Prelude.{◌≡◌};
 ghost use Rattle.geometry.specs.Geometry as Def;
