@@ -38,7 +38,7 @@ under m e f =
     (le_trans (le_of_eq (sym (bits_val x u f tt i)))
     (val_le (to_bits binary32 x) most (le_of_suc-le-suc (bits_lt x u f tt i))))
 
--- the test of `number::range::is_finite`
+-- the finite numbers are those between the two largest
 pub finite_test : (x : Float) → T (fits binary32 x) → between (neg largest32) largest32 x ≡ is_finite x
 unfolding le is_finite neg of_bits
 finite_test nan f = refl

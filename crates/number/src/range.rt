@@ -12,11 +12,11 @@ fn between(low: f32, high: f32, x: f32) -> bool
     (low <= x) & (x <= high)
 }
 
-// Neither NaN nor an infinity: by two comparisons, where the library's test takes a difference.
+// Neither NaN nor an infinity.
 pub fn is_finite(x: f32) -> bool
     ensures { result ≡ Def.is_finite x }
 {
-    between(-f32::MAX, f32::MAX, x)
+    x.is_finite()
 }
 
 // Coordinates, displacements, coefficients: size at most 2^20.
