@@ -3,20 +3,8 @@ use crate::words::{self, Call};
 use admission::Limits;
 use ccd3::safe_time;
 
-// The words of an answer: the refusal, 0 for none; the kind; the time, 0 where it is refused. They are the stream's, by
-// a table of its own: this program answers for the library, and not for the C face.
-fn told(answer: ccd3::Answer) -> (u32, u32, f32) {
-    match answer {
-        ccd3::Answer::Touching(time) => (0, 0, time),
-        ccd3::Answer::Contact(time) => (0, 1, time),
-        ccd3::Answer::Clear(time) => (0, 2, time),
-        ccd3::Answer::Budget(time) => (0, 3, time),
-        ccd3::Answer::Refused(refusal) => (refusal, 4, 0.0),
-    }
-}
-
 fn put_safe_time(out: &mut words::Answer, safe: ccd3::SafeTime) {
-    let (refusal, kind, time) = told(safe.answer);
+    let (refusal, kind, time) = safe.answer.numbers();
     out.word(refusal);
     out.word(kind);
     out.number(time);

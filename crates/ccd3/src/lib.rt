@@ -2,6 +2,9 @@
 
 #![tactic(auto)]
 
+ghost use Rattle.std.specs.Prelude.{◌≡◌};
+ghost use Rattle.ccd3.specs.SafeTime as Def;
+
 use distance::candidate::Nearest;
 
 // How a call ends, each case with its time, or a refusal's number: the form that docs/01-scope.md has for this place
@@ -13,6 +16,33 @@ pub enum Answer {
     Clear(f32),
     Budget(f32),
     Refused(u32),
+}
+
+// How it ends, by the number of its kind.
+#[derive(Clone, Copy)]
+enum Kind {
+    Touching = 0,
+    Contact = 1,
+    Clear = 2,
+    Budget = 3,
+    Refused = 4,
+}
+
+impl Answer {
+    // In numbers: the refusal, 0 for none; the kind; the time, zero with a refusal.
+    #[tactic(auto, unfolding(crate::specs::SafeTime::numbers_of))]
+    pub fn numbers(self) -> (u32, u32, f32)
+        ensures { result ≡ Def.numbers_of self }
+    {
+        let (refusal, kind, time) = match self {
+            Answer::Touching(time) => (0, Kind::Touching, time),
+            Answer::Contact(time) => (0, Kind::Contact, time),
+            Answer::Clear(time) => (0, Kind::Clear, time),
+            Answer::Budget(time) => (0, Kind::Budget, time),
+            Answer::Refused(refusal) => (refusal, Kind::Refused, 0.0),
+        };
+        (refusal, kind as u32, time)
+    }
 }
 
 // The answer, and how many probes and halvings were made.

@@ -4,20 +4,9 @@
 ghost use Rattle.std.specs.Prelude.{◌≡◌};
 ghost use Rattle.urtemval.specs.Face as Def;
 
-use ccd3::Answer;
 use distance::candidate::Nearest;
 use number::refusal::Refusal;
 use polynomial_root::answer;
-
-// How a safe time ends, by the number that C has for it.
-#[derive(Clone, Copy)]
-enum Kind {
-    Touching = 0,
-    Contact = 1,
-    Clear = 2,
-    Budget = 3,
-    Refused = 4,
-}
 
 // A safe time, with the number of its kind; or a refusal.
 #[repr(C)]
@@ -61,18 +50,12 @@ pub struct Value {
 impl From<ccd3::SafeTime> for SafeTime {
     ghost from_gives = { λ safe told. told ≡ Def.safe_time safe };
 
-    #[tactic(auto, unfolding(crate::specs::Face::safe_time, ccd3::specs::SafeTime::numbers_of))]
+    #[tactic(auto, unfolding(crate::specs::Face::safe_time))]
     fn from(safe: ccd3::SafeTime) -> SafeTime {
-        let (refusal, kind, time) = match safe.answer {
-            Answer::Touching(time) => (0, Kind::Touching, time),
-            Answer::Contact(time) => (0, Kind::Contact, time),
-            Answer::Clear(time) => (0, Kind::Clear, time),
-            Answer::Budget(time) => (0, Kind::Budget, time),
-            Answer::Refused(refusal) => (refusal, Kind::Refused, 0.0),
-        };
+        let (refusal, kind, time) = safe.answer.numbers();
         SafeTime {
             refusal,
-            kind: kind as u32,
+            kind,
             time,
             probes: safe.probes,
             halvings: safe.halvings,
