@@ -19,7 +19,7 @@ use program_io::read_full;
 use std::io;
 use std::io::{Read, Write};
 
-// How many bytes a block of calls has, and its answers at most.
+// How many bytes a block of calls has, and its answers at most: fixed memory, and no heap.
 const BLOCK: usize = 65536;
 
 // Answers the calls of one block, and says how many bytes the answers take. The calls end with the block, at a word

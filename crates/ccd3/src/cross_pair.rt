@@ -17,7 +17,7 @@ const COORD_SLACK: f32 = 6.2e-7;
 // The largest finite f32.
 pub(crate) const LARGEST: f32 = f32::MAX;
 
-// The sizes of the three numbers.
+// The sizes of the three numbers, written out as in `geometry::vec3`.
 fn sizes(v: [f32; 3]) -> [f32; 3]
     ensures { result ≡ Def.sizes v }
 {

@@ -61,9 +61,9 @@ fn time<const SPLIT: usize>(left: f32, dx: [[f32; 3]; 4], i: usize, j: usize, a:
     }
 }
 
-// Over the columns of either side, of a split of 2 or 3. What each pair of columns leaves is put into tables before
-// the first test, so that a compiler computes all of it side by side; with one table of gaps and times a walk takes 8 %
-// longer for a face and a vertex, and 11 % longer for edges.
+// Over the columns of either side, of a split of 2 or 3; of points, displacements and an aim, as the definition is. What
+// each pair of columns leaves is put into tables before the first test, so that a compiler computes all of it side by
+// side; with one table of gaps and times a walk takes 8 % longer for a face and a vertex, and 11 % longer for edges.
 fn least_over<const SPLIT: usize>(x: [[f32; 3]; 4], dx: [[f32; 3]; 4], a: Aim) -> f32
     requires least { 2 ≤ SPLIT }
     requires most { SPLIT ≤ 3 }

@@ -5,7 +5,8 @@ ghost use Rattle.std.specs.Prelude.{◌≡◌, ℕ, ◌+◌, ◌-◌, ◌*◌, �
 ghost use Rattle.number.specs.ByHand as Def;
 ghost use Rattle.number.specs.Inner.{OnSheet};
 
-// A number above zero: digits * 2 ^ (exponent - 173), with 24 binary digits.
+// A number above zero: digits * 2 ^ (exponent - 173), with 24 binary digits. That there are so many is no invariant of
+// the type: the definition `ByHand.argument_of` makes the record of its two numbers alone.
 #[derive(Clone, Copy)]
 pub struct Argument {
     pub digits: u32,

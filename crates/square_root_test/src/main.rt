@@ -37,7 +37,7 @@ fn answer_all(input: &[u8], output: &mut [u8]) -> usize
     5 * patterns.len()
 }
 
-// One block of patterns; whether there may be more.
+// One block of patterns, in fixed memory; whether there may be more.
 fn turn(from: &mut impl Read, to: &mut impl Write) -> io::Result<bool> {
     let mut input = [0u8; 4096];
     let n = read_full(from, &mut input)?;
