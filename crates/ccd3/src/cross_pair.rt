@@ -17,11 +17,11 @@ const COORD_SLACK: f32 = 6.2e-7;
 // The largest finite f32.
 pub(crate) const LARGEST: f32 = f32::MAX;
 
-// The sizes of the three numbers, written out as in `geometry::vec3`.
+// The sizes of the three numbers.
 fn sizes(v: [f32; 3]) -> [f32; 3]
     ensures { result ≡ Def.sizes v }
 {
-    [size(v[0]), size(v[1]), size(v[2])]
+    v.map(size)
 }
 
 // |a| · |b|

@@ -8,7 +8,7 @@ use distance::nearest;
 use geometry::mat3x4_array_of_cols::add_scaled;
 
 // Where the halving ended: the last time above the threshold and the first that is not, and how many halvings there
-// were. The definition's `Halved` has a field more, whether the halving ended by itself: it always does.
+// were. A record and no tuple, since both ends are of one type.
 #[derive(Clone, Copy)]
 pub(crate) struct Closed {
     pub(crate) lower: f32,

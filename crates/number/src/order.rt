@@ -1,7 +1,7 @@
 // Absolute value, smaller, larger, clamp, a zero as it is written, and the next f32 down (docs/01-scope.md, "Number
 // helpers"). The definitions say which of equals is answered, and what of a NaN: the library's `min` and `max` leave the
-// first open, its `clamp` asks for ends in order, its `next_down` is of any number and would stand behind the same test.
-// With its `abs` a walk takes 7 % longer for edges, and 12 % for a face and a vertex.
+// first open, its `clamp` asks for ends in order, its `next_down` is of any number and would stand behind the same test,
+// and `written` it does not have. With its `abs` a walk takes 7 % longer for edges, and 12 % for a face and a vertex.
 ghost use Rattle.std.specs.Prelude.{◌≡◌};
 ghost use Rattle.number.specs.Number as Def;
 

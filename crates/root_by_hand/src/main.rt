@@ -59,8 +59,8 @@ impl Reading {
     }
 }
 
-// Whether a word follows the program's name. It stands in each program that asks: no clause can say what the
-// environment has, and a library's function has one.
+// Whether a word follows the program's name. It stands in each program that asks: a public function has a contract, and
+// of what the environment has none can be written that a wrong program would break.
 fn has_argument(rt: &impl Env) -> bool {
     !matches!(rt.arg(1, &mut []), Err(FillError::NotPresent))
 }

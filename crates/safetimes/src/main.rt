@@ -9,8 +9,8 @@ use std::env::{Env, FillError};
 use std::io;
 use std::io::{Read, Write};
 
-// Whether a word follows the program's name. It stands in each program that asks: no clause can say what the
-// environment has, and a library's function has one.
+// Whether a word follows the program's name. It stands in each program that asks: a public function has a contract, and
+// of what the environment has none can be written that a wrong program would break.
 fn has_argument(rt: &impl Env) -> bool {
     !matches!(rt.arg(1, &mut []), Err(FillError::NotPresent))
 }
