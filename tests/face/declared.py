@@ -127,7 +127,7 @@ def layout():
         for field, kind in fields:
             lines.append(f"field {name}.{field} at {at} size {SIZES[kind]}")
             at += SIZES[kind]
-    kinds = found(r"enum Kind {(.*?)}", text("crates/urtemval/src/answer.rt"), "the kinds").group(1)
+    kinds = found(r"enum Kind {(.*?)}", text("crates/ccd3/src/lib.rt"), "the kinds").group(1)
     for name, number in re.findall(r"(\w+) = (\d)", kinds):
         lines.append(f"kind {name.upper()} {number}")
     full = found(r"pub const FULL_ALLOWANCE: u32 = (\d+);", text("crates/admission/src/lib.rt"), "the full allowance")
