@@ -1,4 +1,4 @@
--- The numbers of an admitted call, as bounds. Assumes nothing.
+-- The numbers of an admitted call, as bounds; and what a finder answers, by its admission. Assumes nothing.
 use Prim.Native.Nat.{ℕ}
 use mathlib.Core.Path.{◌≡◌, refl, sym, ap, ◌∙◌}
 use mathlib.Core.Bool.{Bool, true, ◌&&◌}
