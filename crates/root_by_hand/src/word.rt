@@ -15,11 +15,16 @@ impl Word {
 
     // The word with one character more.
     pub(crate) fn longer(self, character: u8) -> Word {
-        match (self, char::from(character).to_digit(16)) {
-            (Word::Digits { count, bits }, Some(digit)) if count < 8 => {
-                Word::Digits {
-                    count: count + 1,
-                    bits: bits << 4 | digit,
+        match self {
+            Word::Digits { count, bits } if count < 8 => {
+                match char::from(character).to_digit(16) {
+                    Some(digit) => {
+                        Word::Digits {
+                            count: count + 1,
+                            bits: bits << 4 | digit,
+                        }
+                    }
+                    None => Word::NoPattern,
                 }
             }
             _ => Word::NoPattern,
