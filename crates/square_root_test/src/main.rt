@@ -5,7 +5,7 @@
 
 #![tactic(auto)]
 
-ghost use Rattle.std.specs.Prelude.{◌*◌, ◌≤◌, length};
+ghost use Rattle.std.specs.Prelude.{◌*◌, ◌/◌, ◌≡◌, ◌≤◌, length};
 ghost use Rattle.io.specs.Counts.{IsPrefixLen};
 
 use number::pattern::{bits_of, float_of};
@@ -27,14 +27,17 @@ fn answer(pattern: [u8; 4]) -> [u8; 5] {
 // The answers to the patterns of `input`, put at the start of `output`; how many bytes that are.
 fn answer_all(input: &[u8], output: &mut [u8]) -> usize
     requires { 5 * length input.now ≤ 4 * length output.old }
-    ensures { IsPrefixLen result output.new }
+    ensures prefix { IsPrefixLen result output.new }
+    ensures five_for_four { result ≡ 5 * (length input.now / 4) }
 {
     let (patterns, _) = input.as_chunks::<4>();
     let (answers, _) = output.as_chunks_mut::<5>();
+    let mut answered = 0;
     for (pattern, place) in patterns.iter().zip(answers) {
         *place = answer(*pattern);
+        answered += place.len();
     }
-    5 * patterns.len()
+    answered
 }
 
 // One block of patterns, in fixed memory; whether there may be more.
