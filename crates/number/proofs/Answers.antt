@@ -127,8 +127,7 @@ module _ (n : ℕ) (v : Float) where
   clauses r told e = (e, (ap refusal_of e ∙ refusal_is n v told, ap value_of e ∙ value_is))
 
   -- what an answer that is no refusal was made with
-  pub given_value : (r : Result Float Refusal) → Told n → r ≡ answered n v → refusal_of r ≡ 0
-      → (n ≡ 0) × (value_of r ≡ v)
-  given_value r told e z =
-      let none : n ≡ 0 = sym (ap refusal_of e ∙ refusal_is n v told) ∙ z in
-      (none, ap value_of e ∙ value_is ∙ sym (taken v zero32 n n refl none))
+  pub given_value : (r : Result Float Refusal) → r ≡ answered n v → refusal_of r ≡ 0 → (n ≡ 0) × (value_of r ≡ v)
+  unfolding refusal_of value_of
+  given_value (Ok w) e z = let (none, is) = given n v w (sym e) in (none, sym is)
+  given_value (Err r) e z = absurd (number_some r z)

@@ -158,5 +158,5 @@ module _ (x : List (List Float)) (split : ℕ) (f : PointsFit x) where
     where
       upward_answer : refusal_of r ≡ 0 → ErrsUpward x split (value_of r)
       upward_answer z =
-          let (none, is) = given_value (split_refusal x split) (norm_of x split) r (split_told x split) e z in
+          let (none, is) = given_value (split_refusal x split) (norm_of x split) r e z in
           subst (ErrsUpward x split) (sym is) (norm_upward x split (split_admits x split none).0 f)

@@ -26,7 +26,7 @@ and_then {p} {q} {r} {a} {b} v w = record {
 pub nothing : {p : Page} → length p.out.now ≤ most → Written p [] p
 nothing h = record { same_buffer = refl; fits = h; wrote = refl; moved = omega arith }
 
--- the buffer keeps its length
+-- the buffer still ends before the greatest place
 pub still_fits : {p q : Page} {a : List ℕ} → Written p a q → length q.out.now ≤ most
 still_fits {p} {q} {a} w = omega (arith, w.fits, ap length w.wrote, length-sets p.out.now p.at a)
 
@@ -44,6 +44,10 @@ put_and_then {o} {o'} {o''} {a} {b} {i} {j} {k} p q = record {
       ∙ sets_append a b o i;
   moved = omega (arith, p.moved, q.moved, length-append a b);
 }
+
+-- and where nothing is put
+pub put_nothing : (o : List ℕ) (i : ℕ) → Put o i [] o i
+put_nothing o i = record { wrote = refl; moved = omega arith }
 
 -- what was written on a page from its start on is put into the buffer behind it
 pub put : {o : MutBor (List ℕ)} {p q : Page} {a o' : List ℕ} {i j : ℕ} → Starts o i p → Written p a q
