@@ -47,9 +47,9 @@ def rattle(functions):
     return RATTLE.format(most_call=max(calls), most_answer=max(answers), arms="".join(arms))
 
 
-# how many words each field has that a method of `words.rt` reads or writes
+# how many words each field has that a method of `words.rt` reads or writes; `answered` is read there
 READ = {"number": [1], "word": [1], "split": [1], "point": [3], "points": [12]}
-WRITTEN = {"word": [1], "refusal": [1], "number": [1], "answered": [1, 1], "point": [3], "points": [12]}
+WRITTEN = {"word": [1], "refusal": [1], "number": [1], "point": [3], "points": [12]}
 
 
 def sizes_of(name, bodies, lent, words):
@@ -57,7 +57,10 @@ def sizes_of(name, bodies, lent, words):
     lent: itself or by another that it hands it to."""
     found = []
     for method, other in re.findall(rf"\b{lent}\.(\w+)\(|\b(\w+)\(\s*{lent}[,)]", bodies[name]):
-        found += words[method] if method else sizes_of(other, bodies, lent, words)
+        if method in words:
+            found += words[method]
+        else:
+            found += sizes_of(method or other, bodies, "self" if method else lent, words)
     return found
 
 
@@ -66,6 +69,8 @@ def rattle_faults(functions):
     sources = {path.name: path.read_text() for path in SIZES.parent.glob("*.rt")}
     text = "\n".join(sources.values())
     bodies = dict(re.findall(r"^(?:pub\(crate\) )?fn (\w+)\([^{]*(\{.*?^\})", text, re.M | re.S))
+    answered = re.search(r"^    pub\(crate\) fn answered\(.*?^    \}", sources["words.rt"], re.M | re.S)
+    bodies["answered"] = answered[0] if answered else ""
     arms = dict(re.findall(r"^ *(\d+) => \w+::(\w+)\(call, out\),$", sources["calls.rt"], re.M))
     for f in functions:
         if arms.pop(str(f.number), None) != f.name:

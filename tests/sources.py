@@ -3,7 +3,7 @@
 - Each public function has an `ensures` and no `requires`, is called by another crate or exported, and stands in a table
   of docs/STATEMENTS.md with its definition, which is there.
 - Each public function has a must-fail edit: of its own lines, or of a function of its crate that it calls. The row of
-  a function in STATEMENTS.md names edits of that kind, and each edit stands there.
+  a function in STATEMENTS.md names edits of that kind, and each edit stands there, one of a program in TESTING.md.
 - README.md lists each file of definitions with its number of lines, and their sums.
 - Each definition of specs/ is reached from a public contract or from a theorem that STATEMENTS.md lists, or stands in
   Inner.antt and is reached from another contract; each law of proofs/ is cited, or stands in STATEMENTS.md, whose names
@@ -338,8 +338,21 @@ def hold_statements():
         fault("docs/STATEMENTS.md", f"{function} is not listed")
     there = {(crate_of(edit), edit.stem) for edit in CRATES.glob("*/must-fail/*.edit")}
     for crate, label in sorted(there - named):
-        fault("docs/STATEMENTS.md", f"no row of its functions names {crate}'s edit {label}")
+        if crate in IS_LIBRARY:
+            fault("docs/STATEMENTS.md", f"no row of its functions names {crate}'s edit {label}")
     return len(public), len(there)
+
+
+# ---- docs/TESTING.md
+def hold_programs():
+    """The page names the edits of programs, and each changes a function."""
+    there = [edit for edit in CRATES.glob("*/must-fail/*.edit") if crate_of(edit) not in IS_LIBRARY]
+    for edit in there:
+        edited(edit, bodies(crate_of(edit)))
+    text = (ROOT / "docs/TESTING.md").read_text()
+    named = re.findall(r"`(\w+)`", " ".join(re.findall(r"wrong programs refused: ([^)]*)", text)))
+    for label in sorted(set(named) ^ {edit.stem for edit in there}):
+        fault("docs/TESTING.md", f"{label} is named and no program's edit, or the other way round")
 
 
 # ---- README.md
@@ -398,6 +411,7 @@ hold_calls()
 hold_definitions()
 hold_laws()
 functions, edits = hold_statements()
+hold_programs()
 files, lines = hold_readme()
 hold_map()
 faults += calls_written.faults()
